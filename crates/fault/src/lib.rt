@@ -36,8 +36,18 @@ impl Fault {
     {
         let part = refusal.part(call);
         if refusal.names_nothing() {
-            return Fault { refusal, part, resource: NO_RESOURCE, place: NO_PLACE };
+            return Fault {
+                refusal,
+                part,
+                resource: NO_RESOURCE,
+                place: NO_PLACE,
+            };
         }
-        Fault { refusal, part, resource, place }
+        Fault {
+            refusal,
+            part,
+            resource,
+            place,
+        }
     }
 }
