@@ -1,0 +1,6 @@
+// The books of what is still uninitialized: one list of ranges for each resource, in places of its own.
+mod buffer;
+mod kind;
+
+pub use buffer::BufferInitTracker;
+pub use kind::MemoryInitKind;
