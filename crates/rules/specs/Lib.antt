@@ -1,0 +1,12 @@
+pub mod State
+pub mod Verdicts
+pub mod Lists
+pub mod Steps
+pub mod Clears
+pub mod Making
+pub mod Uses
+pub mod Planning
+pub mod Reports
+pub mod Submission
+pub mod Calls
+pub mod Sample
