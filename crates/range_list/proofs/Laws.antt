@@ -13,7 +13,7 @@ use Rattle.std.specs.shelf.Lists.{joined}
 use Rattle.std.proofs.shelf.Tests.{cond-both, cases-lt, cond-true, cond-false, lt-ltb, le-ltb, ltb-true, ltb-false, eqb-true, eqb-false, leb-true, leb-false, ne-eqb, eq-eqb, le-leb, lt-leb}
 use Rattle.std.proofs.shelf.Lists.{drop-more, drop-all, getD-default, take-append-drop, length-map, length-take, length-drop}
 use Rattle.std.proofs.shelf.Ways.{tells}
-use Rattle.range_list.specs.Ranges.{SoundFrom, Sound, inside, member, part, clip, pieces, cut, drained, leftOf, begun, closed, join, discarded, count, lengths, clipped}
+use Rattle.range_list.specs.Ranges.{SoundFrom, Sound, inside, member, part, clip, pieces, cut, drained, leftOf, begun, closed, join, discarded, count, lengths, clipped, whole}
 
 -- the one range of a part that is not empty, and none of one that is
 pub part-some : (a b : ℕ) → a < b → part a b ≡ (a, b) ∷ []
@@ -51,6 +51,14 @@ member-append p (x ∷ xs) ys = let e = member-append p xs ys in grind (arith, e
 
 member-part : (p a b : ℕ) → member p (part a b) ≡ inside a b p
 member-part p a b = cond-both (ltb a b) ((a, b) ∷ []) [] (λ l. member p l ≡ inside a b p) (λ t. grind (arith, tells)) (λ t. grind (arith, tells))
+
+-- a new list holds every position below its size, and is sound
+pub member-whole : (p n : ℕ) → member p (whole n) ≡ inside 0 n p
+member-whole p n = member-part p 0 n
+
+pub sound-whole : (n : ℕ) → Sound n (whole n)
+sound-whole n =
+    cond-both (ltb 0 n) ((0, n) ∷ []) [] (λ l. Sound n l) (λ t. (omega arith, ltb-true 0 n t, omega arith, tt)) (λ _. tt)
 
 member-cut : (p lo hi : ℕ) (r : ℕ × ℕ) → lo < hi → member p (cut lo hi r) ≡ (inside (r .0) (r .1) p && not (inside lo hi p))
 member-cut p lo hi r lt =

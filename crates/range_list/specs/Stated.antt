@@ -6,7 +6,7 @@ use Prim.Native.Nat.{ℕ, _+_, _/_, _<_, _≤_}
 use lib.Dec.{eqb}
 use lib.ListN.{length}
 use Rattle.std.specs.declared.option.Option.the-variants.{Some, None}
-use Rattle.range_list.specs.Ranges.{Sound, inside, member, covered, pieces, drained, discarded, added, checked, count, lengths}
+use Rattle.range_list.specs.Ranges.{Sound, inside, member, covered, pieces, drained, discarded, added, checked, count, lengths, whole}
 
 pub record RangeLaws : Type 0 where
   -- after a drain a position is in the list if it was before and is outside the query
@@ -21,6 +21,9 @@ pub record RangeLaws : Type 0 where
   pub within-checked : (p lo hi : ℕ) (rs : List (ℕ × ℕ)) → covered p (checked lo hi rs) ≡ true → inside lo hi p ≡ true
   -- the lengths of the pieces add up to the number of positions that a drain takes out
   pub total-pieces : (lo hi n : ℕ) (rs : List (ℕ × ℕ)) → Sound n rs → lengths (pieces lo hi rs) ≡ count (λ p. member p rs && inside lo hi p) n
+  -- a new list is sound, and holds every position below its size
+  pub keeps-whole : (n : ℕ) → Sound n (whole n)
+  pub in-whole : (p n : ℕ) → member p (whole n) ≡ inside 0 n p
   -- each change keeps a list sound
   pub keeps-drained : (lo hi n : ℕ) (rs : List (ℕ × ℕ)) → Sound n rs → Sound n (drained lo hi rs)
   pub keeps-pieces : (lo hi n : ℕ) (rs : List (ℕ × ℕ)) → Sound n rs → Sound n (pieces lo hi rs)

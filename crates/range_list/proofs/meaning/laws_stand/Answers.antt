@@ -1,5 +1,5 @@
 use native.Mathlib.Omega.{arith}
-use Rattle.range_list.proofs.Laws.{member-drained, member-pieces, member-discarded, lengths-pieces, sound-drained, sound-pieces, sound-discarded, few-ranges}
+use Rattle.range_list.proofs.Laws.{member-drained, member-pieces, member-discarded, lengths-pieces, sound-drained, sound-pieces, sound-discarded, few-ranges, member-whole, sound-whole}
 use Rattle.range_list.proofs.Members.{checked-covers, checked-within, same-members}
 use Rattle.range_list.proofs.meaning.laws_stand.Needs as need
 
@@ -11,6 +11,8 @@ returns c = record {
   covers-checked = checked-covers;
   within-checked = checked-within;
   total-pieces = lengths-pieces;
+  keeps-whole = sound-whole;
+  in-whole = member-whole;
   keeps-drained = sound-drained;
   keeps-pieces = λ lo hi n rs h. sound-pieces 0 lo hi n rs h;
   keeps-discarded = λ p n rs lt h. sound-discarded 0 n p rs (omega arith) lt h;
