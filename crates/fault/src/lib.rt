@@ -1,4 +1,6 @@
 // Why a call is declined: one case for each cause, the part of the planner that declines, and what the fault names.
+#![tactic(auto)]
+
 ghost use Rattle.std.specs.Prelude.{◌≡◌};
 ghost use Rattle.fault.specs.Numbers.{number_of, part_number};
 ghost use Rattle.fault.specs.Parts.{part_of, fault_of, resource_of, place_of};

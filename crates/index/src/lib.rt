@@ -1,4 +1,6 @@
 // What a range list asks of the indexes that its ranges lie between: a position, and an order that follows it.
+#![tactic(auto)]
+
 ghost use Rattle.std.specs.Prelude.{◌≡◌, ℕ, ◌+◌, ◌<◌, max, min, eqb, ltb};
 ghost use Rattle.std.proofs.Common.{rules};
 

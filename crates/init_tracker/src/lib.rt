@@ -1,4 +1,6 @@
 // The books of what is still uninitialized: one list of ranges for each resource, in places of its own.
+#![tactic(auto)]
+
 mod buffer;
 mod kind;
 mod layer;

@@ -1,4 +1,6 @@
 // Which clears the steps of a list can't be spared, found before the first command, and the commands of a submission.
+#![tactic(auto)]
+
 mod buffer;
 mod checks;
 mod join;

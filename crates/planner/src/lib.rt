@@ -1,4 +1,6 @@
 // The planner: buffers with their books, lists of steps, and every call on them.
+#![tactic(auto)]
+
 mod list;
 mod planner;
 mod uses;

@@ -1,4 +1,6 @@
 // Lists of the ranges that are still uninitialized, over the caller's places and for every kind of index.
+#![tactic(auto)]
+
 mod bisect;
 mod cutting;
 mod discard;

@@ -1,4 +1,6 @@
 // Tries every range list of up to 6 positions, as a buffer's book and as a list of layers, against a plain set of positions.
+#![tactic(auto)]
+
 mod buffers;
 mod layers;
 mod sets;

@@ -1,4 +1,6 @@
 // The plain types of calls, steps and answers, and in specs/ the rules of every call.
+#![tactic(auto)]
+
 mod answer;
 mod call;
 mod laws;

@@ -1,4 +1,6 @@
 // Prints the listing of a session file: of standard input, or of each file that an argument names.
+#![tactic(auto)]
+
 use session_file::run;
 use std::io::{Read, Write};
 use std::{env, fs, io};

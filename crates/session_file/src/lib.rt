@@ -1,4 +1,6 @@
 // Session files: reading one, call by call, and writing its listing.
+#![tactic(auto)]
+
 mod calls;
 mod decode;
 mod header;

@@ -1,4 +1,6 @@
 // Textures: what may be made, where its cells lie, and in which runs a surface is cleared.
+#![tactic(auto)]
+
 mod alignment;
 mod descriptor;
 mod format;

@@ -1,4 +1,6 @@
 // Trials of the layers from outside, in a crate of their own so that no layer is proved twice for its tests.
+#![tactic(auto)]
+
 #[cfg(test)]
 mod calls;
 #[cfg(test)]

@@ -20,7 +20,7 @@ returns-then-place-len c =
 pub fill-requires : goal.fill-requires
 fill-requires c =
     let rows = vec_items c.args.rows.now in
-    let here = length_here rows c.args.c.slot c.index-mut.result.now (omega arith) c.index-mut.ensures.value in
+    let here = length_here rows c.args.c.slot c.index_mut.result.now (omega arith) c.index_mut.ensures.value in
     let fits = fits_within (length_at rows) c.args.c c.requires c.if-c-eq0.false in
     omega arith
 
@@ -28,11 +28,11 @@ pub returns : goal.returns
 returns c =
     let rows = vec_items c.args.rows.now in
     let place = c.args.c.slot in
-    let old = c.index-mut.result.now in
+    let old = c.index_mut.result.now in
     let first = c.args.c.first in
     let count = c.args.c.count in
     record {
-      long = lengths_set rows place old (omega arith) c.index-mut.ensures.value c.fill.new.row c.fill.ensures.long;
+      long = lengths_set rows place old (omega arith) c.index_mut.ensures.value c.fill.new.row c.fill.ensures.long;
       cells =
-          byte_put rows place old (omega arith) c.index-mut.ensures.value c.fill.new.row (λ i. leb first i && ltb i (first + count)) c.byte.result (byte_of c.args.c.kind) c.byte.ensures c.fill.ensures.cells;
+          byte_put rows place old (omega arith) c.index_mut.ensures.value c.fill.new.row (λ i. leb first i && ltb i (first + count)) c.byte.result (byte_of c.args.c.kind) c.byte.ensures c.fill.ensures.cells;
     }

@@ -24,4 +24,4 @@ returns c =
     let g : ℕ → ℕ = byte_at rows c.args.slot in
     let same : summed f c.args.first c.args.count ≡ summed g c.args.first c.args.count
     = summed_same f g c.args.first c.args.count (λ i l u. sym (byte_here rows c.args.slot row (omega arith) c.index.ensures i)) in
-    ◌∙◌ {b = summed f c.args.first c.args.count} c.sum-of.ensures same
+    ◌∙◌ {b = summed f c.args.first c.args.count} c.sum_of.ensures same

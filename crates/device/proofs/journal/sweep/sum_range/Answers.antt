@@ -8,8 +8,8 @@ pub loop-at-init : goal.loop-at-init
 loop-at-init c = (omega arith, omega arith, omega arith, summed_empty _ c.args.first _ (omega arith))
 
 -- the part at hand is at most 255 times its length
-part : (c : goal.After-next-change-next) → c.value-at-value.result * (c.next-change-next.result - c.loop-at.at) ≤ 255 * (c.next-change-next.result - c.loop-at.at)
-part c = byte_product c.value-at-value.result (c.next-change-next.result - c.loop-at.at) (omega arith)
+part : (c : goal.After-next_change-next) → c.value_at-value.result * (c.next_change-next.result - c.loop-at.at) ≤ 255 * (c.next_change-next.result - c.loop-at.at)
+part c = byte_product c.value_at-value.result (c.next_change-next.result - c.loop-at.at) (omega arith)
 
 pub overflow-add-sum : goal.overflow-add-sum
 overflow-add-sum c = omega (arith, part c)
@@ -18,7 +18,7 @@ pub loop-at-preserved : goal.loop-at-preserved
 loop-at-preserved c =
     let f : ℕ → ℕ = λ i. ran (λ _ _. c.args.start) c.args.records.now c.args.slot i in (
       omega arith,
-      c.next-change-next.ensures.within,
+      c.next_change-next.ensures.within,
       omega (arith, part c),
-      summed_more f c.args.first c.loop-at.at c.next-change-next.result c.value-at-value.result c.loop-at.sum (omega arith) (omega arith) c.loop-at.invariant.3 c.value-at-value.ensures (c.next-change-next.ensures.alike c.args.start),
+      summed_more f c.args.first c.loop-at.at c.next_change-next.result c.value-at-value.result c.loop-at.sum (omega arith) (omega arith) c.loop-at.invariant.3 c.value-at-value.ensures (c.next_change-next.ensures.alike c.args.start),
     )

@@ -14,7 +14,7 @@ returns c =
     let items = vec_items j.records in
     let wrote = take_more_set items j.used c.args.c (omega arith) in
     record {
-      answer = allowed_since (meaning_of j) c.args.c c.extent-at.result (omega arith) c.extent-at.ensures c.if-not-fits.ensures;
+      answer = allowed_since (meaning_of j) c.args.c c.extent_at.result (omega arith) c.extent_at.ensures c.if-not-fits.ensures;
       took = record {
         cells = λ s i. ap (λ (cs : List Command). ran (λ _ _. j.start) cs s i) wrote ∙ ran_push (λ _ _. j.start) (take j.used items) c.args.c s i;
         extents = λ s. refl;
