@@ -9,8 +9,8 @@ pub returns-then-before : goal.returns-then-before
 returns-then-before g c =
     let p = g.I.Index.position in
     let xs = c.args.ranges.now in
-    let k = c.first-ending-after-k.result in
-    let f = c.first-ending-after-k.ensures in
+    let k = c.first_ending_after-k.result in
+    let f = c.first_ending_after-k.ensures in
     let hi = p c.args.to in
     let x = c.index-ranges-k.result in
     let l = length-map xs (ends p) in
@@ -27,8 +27,8 @@ pub returns-else-before : goal.returns-else-before
 returns-else-before g c =
     let p = g.I.Index.position in
     let xs = c.args.ranges.now in
-    let k = c.first-ending-after-k.result in
-    let f = c.first-ending-after-k.ensures in
+    let k = c.first_ending_after-k.result in
+    let f = c.first_ending_after-k.ensures in
     let hi = p c.args.to in
     let x = c.index-ranges-k.result in
     let l = length-map xs (ends p) in
@@ -45,8 +45,8 @@ pub returns-else-k-ranges : goal.returns-else-k-ranges
 returns-else-k-ranges g c =
     let p = g.I.Index.position in
     let xs = c.args.ranges.now in
-    let k = c.first-ending-after-k.result in
-    let f = c.first-ending-after-k.ensures in
+    let k = c.first_ending_after-k.result in
+    let f = c.first_ending_after-k.ensures in
     let hi = p c.args.to in
     let l = length-map xs (ends p) in
     record {

@@ -13,17 +13,17 @@ returns-then-not-before g c =
     let ge : hi ≤ lo = is_after lo hi c.if-not-before.ensures in
     (omega arith, sym (pieces_none lo hi (all_ends p c.args.ranges.now) ge), refl)
 
-pub overflow-sub-count : goal.overflow-sub-count
-overflow-sub-count g c =
+pub overflow_sub-count : goal.overflow_sub-count
+overflow_sub-count g c =
     let p = g.I.Index.position in
     let xs = c.args.ranges.now in
     let lo = p c.args.from in
     let hi = p c.args.to in
-    let f = c.first-ending-after-i.ensures in
-    let h = c.starting-before-j.ensures in
+    let f = c.first_ending_after-i.ensures in
+    let h = c.starting_before-j.ensures in
     let l = length-map xs (ends p) in
     let lt : lo < hi = is_before lo hi c.if-not-before.ensures in
-    in_order lo hi c.requires.sound.0 c.first-ending-after-i.result c.starting-before-j.result (all_ends p xs) lt c.requires.sound.1 f.before (λ m d q w. f.after m d q (omega arith)) h.before (λ m d q w. h.after m d q (omega arith)) (omega arith) (omega arith)
+    in_order lo hi c.requires.sound.0 c.first_ending_after-i.result c.starting_before-j.result (all_ends p xs) lt c.requires.sound.1 f.before (λ m d q w. f.after m d q (omega arith)) h.before (λ m d q w. h.after m d q (omega arith)) (omega arith) (omega arith)
 
 pub returns-then-out-count : goal.returns-then-out-count
 returns-then-out-count g c =
@@ -31,11 +31,11 @@ returns-then-out-count g c =
     let xs = c.args.ranges.now in
     let lo = p c.args.from in
     let hi = p c.args.to in
-    let f = c.first-ending-after-i.ensures in
-    let h = c.starting-before-j.ensures in
+    let f = c.first_ending_after-i.ensures in
+    let h = c.starting_before-j.ensures in
     let l = length-map xs (ends p) in
     let lt : lo < hi = is_before lo hi c.if-not-before.ensures in
-    let n = pieces_count lo hi c.requires.sound.0 c.first-ending-after-i.result c.starting-before-j.result (all_ends p xs) lt c.requires.sound.1 f.before (λ m d q w. f.after m d q (omega arith)) h.before (λ m d q w. h.after m d q (omega arith)) (omega arith) (omega arith) in
+    let n = pieces_count lo hi c.requires.sound.0 c.first_ending_after-i.result c.starting_before-j.result (all_ends p xs) lt c.requires.sound.1 f.before (λ m d q w. f.after m d q (omega arith)) h.before (λ m d q w. h.after m d q (omega arith)) (omega arith) (omega arith) in
     (refl, refl, omega arith)
 
 pub returns : goal.returns
@@ -44,9 +44,9 @@ returns g c =
     let xs = c.args.ranges.now in
     let lo = p c.args.from in
     let hi = p c.args.to in
-    let f = c.first-ending-after-i.ensures in
-    let h = c.starting-before-j.ensures in
+    let f = c.first_ending_after-i.ensures in
+    let h = c.starting_before-j.ensures in
     let l = length-map xs (ends p) in
     let lt : lo < hi = is_before lo hi c.if-not-before.ensures in
-    let e = pieces_are lo hi c.requires.sound.0 c.first-ending-after-i.result c.starting-before-j.result (all_ends p xs) lt c.requires.sound.1 f.before (λ m d q w. f.after m d q (omega arith)) h.before (λ m d q w. h.after m d q (omega arith)) (omega arith) (omega arith) in
-    (omega arith, c.write-cut.ensures.held ∙ sym e, c.write-cut.ensures.rest)
+    let e = pieces_are lo hi c.requires.sound.0 c.first_ending_after-i.result c.starting_before-j.result (all_ends p xs) lt c.requires.sound.1 f.before (λ m d q w. f.after m d q (omega arith)) h.before (λ m d q w. h.after m d q (omega arith)) (omega arith) (omega arith) in
+    (omega arith, c.write_cut.ensures.held ∙ sym e, c.write_cut.ensures.rest)

@@ -6,8 +6,8 @@ use Rattle.range_list.specs.declared.span.Span.{Span}
 use Rattle.range_list.proofs.Steps.{cut_step, rest_step}
 use Rattle.range_list.proofs.cutting.write_cut.Goals as goal
 
-pub offset-bounds-out-t : goal.offset-bounds-out-t
-offset-bounds-out-t g c = let h : c.loop-t.t < length c.args.out.now = omega arith in search scaled_Fits
+pub offset_bounds-out-t : goal.offset_bounds-out-t
+offset_bounds-out-t g c = let h : c.loop-t.t < length c.args.out.now = omega arith in search scaled_Fits
 
 pub loop-t-preserved : goal.loop-t-preserved
 loop-t-preserved g c =
@@ -32,5 +32,5 @@ bounds-ranges-i g c = omega arith
 pub bounds-out-t : goal.bounds-out-t
 bounds-out-t g c = omega arith
 
-pub overflow-add-s : goal.overflow-add-s
-overflow-add-s g c = omega arith
+pub overflow_add-s : goal.overflow_add-s
+overflow_add-s g c = omega arith

@@ -11,17 +11,17 @@ pub returns-then-i-ranges : goal.returns-then-i-ranges
 returns-then-i-ranges g c =
     let p = g.I.Index.position in
     let xs = c.args.ranges.now in
-    let f = c.first-ending-after-i.ensures in
+    let f = c.first_ending_after-i.ensures in
     let l = length-map xs (ends p) in
     let lt = is_before (p c.args.from) (p c.args.to) c.if-not-before.ensures in
-    sym (checked_past (p c.args.from) (p c.args.to) c.first-ending-after-i.result (all_ends p xs) lt f.before (λ m d q w. f.after m d q (omega arith)) (omega arith) (omega arith))
+    sym (checked_past (p c.args.from) (p c.args.to) c.first_ending_after-i.result (all_ends p xs) lt f.before (λ m d q w. f.after m d q (omega arith)) (omega arith) (omega arith))
 
 pub returns-then-not-before-2 : goal.returns-then-not-before-2
 returns-then-not-before-2 g c =
     let p = g.I.Index.position in
     let xs = c.args.ranges.now in
-    let i = c.first-ending-after-i.result in
-    let f = c.first-ending-after-i.ensures in
+    let i = c.first_ending_after-i.result in
+    let f = c.first_ending_after-i.ensures in
     let x = c.index-ranges-i.result in
     let l = length-map xs (ends p) in
     let lt = is_before (p c.args.from) (p c.args.to) c.if-not-before.ensures in
@@ -33,8 +33,8 @@ pub returns-then-before : goal.returns-then-before
 returns-then-before g c =
     let p = g.I.Index.position in
     let xs = c.args.ranges.now in
-    let i = c.first-ending-after-i.result in
-    let f = c.first-ending-after-i.ensures in
+    let i = c.first_ending_after-i.result in
+    let f = c.first_ending_after-i.ensures in
     let x = c.index-ranges-i.result in
     let hi = p c.args.to in
     let l = length-map xs (ends p) in
@@ -52,8 +52,8 @@ pub returns : goal.returns
 returns g c =
     let p = g.I.Index.position in
     let xs = c.args.ranges.now in
-    let i = c.first-ending-after-i.result in
-    let f = c.first-ending-after-i.ensures in
+    let i = c.first_ending_after-i.result in
+    let f = c.first_ending_after-i.ensures in
     let x = c.index-ranges-i.result in
     let hi = p c.args.to in
     let V = all_ends p xs in
@@ -79,8 +79,8 @@ bounds-ranges-i g c = omega arith
 pub bounds-ranges-i-then-i-ranges-2 : goal.bounds-ranges-i-then-i-ranges-2
 bounds-ranges-i-then-i-ranges-2 g c = omega arith
 
-pub overflow-add-i : goal.overflow-add-i
-overflow-add-i g c = omega arith
+pub overflow_add-i : goal.overflow_add-i
+overflow_add-i g c = omega arith
 
-pub overflow-add-t : goal.overflow-add-t
-overflow-add-t g c = omega arith
+pub overflow_add-t : goal.overflow_add-t
+overflow_add-t g c = omega arith

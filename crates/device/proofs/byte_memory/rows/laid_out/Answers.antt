@@ -7,8 +7,8 @@ use Rattle.device.specs.Rows.{Row, lengths}
 use Rattle.device.proofs.Slots.{within_more}
 use Rattle.device.proofs.byte_memory.rows.laid_out.Goals as goal
 
-pub returns-then-len-gt-MOST-CELLS : goal.returns-then-len-gt-MOST-CELLS
-returns-then-len-gt-MOST-CELLS c =
+pub returns-then-len-gt-MOST_CELLS : goal.returns-then-len-gt-MOST_CELLS
+returns-then-len-gt-MOST_CELLS c =
     let rows = vec_items c.args.rows.now in
     let k = c.loop-slot.slot in
     let row = c.index-row.result.now in

@@ -11,8 +11,8 @@ returns-then-place-len c =
     let none = length_past (vec_items c.args.rows.now) c.args.slot (omega arith) in
     summed_empty _ c.args.first c.args.count (omega arith)
 
-pub sum-of-requires : goal.sum-of-requires
-sum-of-requires c =
+pub sum_of-requires : goal.sum_of-requires
+sum_of-requires c =
     let here = length_here (vec_items c.args.rows.now) c.args.slot c.index.result.now (omega arith) c.index.ensures in
     (omega arith, omega arith)
 

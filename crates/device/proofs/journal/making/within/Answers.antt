@@ -5,8 +5,8 @@ use Rattle.std.proofs.lemmas.Bool.{and_left, lt-leb, le-leb}
 use Rattle.device.specs.Meaning.{all_within, most_cells}
 use Rattle.device.proofs.journal.making.within.Goals as goal
 
-pub returns-then-extent-gt-MOST-CELLS : goal.returns-then-extent-gt-MOST-CELLS
-returns-then-extent-gt-MOST-CELLS c =
+pub returns-then-extent-gt-MOST_CELLS : goal.returns-then-extent-gt-MOST_CELLS
+returns-then-extent-gt-MOST_CELLS c =
     let xs = c.args.extents.now in
     let i = c.loop-extent.extent-index in
     let x = get_or xs i 0 in

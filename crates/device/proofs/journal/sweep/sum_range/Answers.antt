@@ -11,8 +11,8 @@ loop-at-init c = (omega arith, omega arith, omega arith, summed_empty _ c.args.f
 part : (c : goal.After-next_change-next) → c.value_at-value.result * (c.next_change-next.result - c.loop-at.at) ≤ 255 * (c.next_change-next.result - c.loop-at.at)
 part c = byte_product c.value_at-value.result (c.next_change-next.result - c.loop-at.at) (omega arith)
 
-pub overflow-add-sum : goal.overflow-add-sum
-overflow-add-sum c = omega (arith, part c)
+pub overflow_add-sum : goal.overflow_add-sum
+overflow_add-sum c = omega (arith, part c)
 
 pub loop-at-preserved : goal.loop-at-preserved
 loop-at-preserved c =
@@ -20,5 +20,5 @@ loop-at-preserved c =
       omega arith,
       c.next_change-next.ensures.within,
       omega (arith, part c),
-      summed_more f c.args.first c.loop-at.at c.next_change-next.result c.value-at-value.result c.loop-at.sum (omega arith) (omega arith) c.loop-at.invariant.3 c.value-at-value.ensures (c.next_change-next.ensures.alike c.args.start),
+      summed_more f c.args.first c.loop-at.at c.next_change-next.result c.value_at-value.result c.loop-at.sum (omega arith) (omega arith) c.loop-at.invariant.3 c.value_at-value.ensures (c.next_change-next.ensures.alike c.args.start),
     )

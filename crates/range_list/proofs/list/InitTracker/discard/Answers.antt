@@ -41,8 +41,8 @@ returns-then-not-before-2 g c =
       sound = c.requires.sound;
     }
 
-pub offset-bounds-self-i-then-i-gt0 : goal.offset-bounds-self-i-then-i-gt0
-offset-bounds-self-i-then-i-gt0 g c = let h : c.find-i.result - 1 < length c.args.self.now.places.now = omega arith in search scaled_Fits
+pub offset_bounds-self-i-then-i-gt0 : goal.offset_bounds-self-i-then-i-gt0
+offset_bounds-self-i-then-i-gt0 g c = let h : c.find-i.result - 1 < length c.args.self.now.places.now = omega arith in search scaled_Fits
 
 pub returns-then-not-before-3 : goal.returns-then-not-before-3
 returns-then-not-before-3 g c =
@@ -132,20 +132,20 @@ find-i-requires g c = record { fits = c.requires.fits; sound = (g.I.Index.positi
 pub bounds-self-i : goal.bounds-self-i
 bounds-self-i g c = omega arith
 
-pub offset-bounds-self-i : goal.offset-bounds-self-i
-offset-bounds-self-i g c = let h : c.find-i.result < length c.args.self.now.places.now = omega arith in search scaled_Fits
+pub offset_bounds-self-i : goal.offset_bounds-self-i
+offset_bounds-self-i g c = let h : c.find-i.result < length c.args.self.now.places.now = omega arith in search scaled_Fits
 
 pub next-next-requires : goal.next-next-requires
 next-next-requires g c = is_before (g.I.Index.position c.args.at) (g.I.Index.position c.args.size) c.if-not-before.ensures
 
-pub overflow-sub-s : goal.overflow-sub-s
-overflow-sub-s g c = omega arith
+pub overflow_sub-s : goal.overflow_sub-s
+overflow_sub-s g c = omega arith
 
 pub bounds-self-i-then-i-gt0 : goal.bounds-self-i-then-i-gt0
 bounds-self-i-then-i-gt0 g c = omega arith
 
-pub overflow-sub-i : goal.overflow-sub-i
-overflow-sub-i g c = omega arith
+pub overflow_sub-i : goal.overflow_sub-i
+overflow_sub-i g c = omega arith
 
 pub put-requires : goal.put-requires
 put-requires g c = record { at = (omega arith, (omega arith, omega arith)); fits = c.requires.fits }

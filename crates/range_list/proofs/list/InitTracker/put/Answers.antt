@@ -9,8 +9,8 @@ use Rattle.range_list.specs.declared.span.Span.{Span}
 use Rattle.range_list.proofs.Steps.{view_length, view_set, view_at, join_at, join_none, put_joined, put_over}
 use Rattle.range_list.proofs.list.InitTracker.put.Goals as goal
 
-pub returns-then-has-start : goal.returns-then-has-start
-returns-then-has-start g c =
+pub returns-then-has_start : goal.returns-then-has_start
+returns-then-has_start g c =
     let p = g.I.Index.position in
     let old = c.args.self.now in
     let i = c.args.i in
@@ -20,7 +20,7 @@ returns-then-has-start g c =
     let y = get_or old.places.now k x in
     let w : Span g.row.I.Denot = record { start = s.start; end = y.end } in
     let l = view_length p old c.requires.fits in
-    let f = c.if-has-start.ensures.found refl in
+    let f = c.if-has_start.ensures.found refl in
     let e = ap (λ r. r.1) (view_at (ends p) old.places.now old.len k x (0, 0) f.0 c.requires.fits) in
     let v = view_set (ends p) old.places.now old.len k w in
     let n = length-set old.places.now k w in
@@ -42,7 +42,7 @@ returns-then-i-k g c =
     let s = c.args.s in
     let l = view_length p old c.requires.fits in
     let n = length-set old.places.now i s in
-    let f = c.if-has-start.ensures.none refl in
+    let f = c.if-has_start.ensures.none refl in
     let j = join_none (view p old) k (p s.start) (p s.end) (λ q d z. f (omega arith) d z) in
     record {
       within = omega arith;
@@ -60,7 +60,7 @@ returns-else-i-k g c =
     let s = c.args.s in
     let V = view p old in
     let l = view_length p old c.requires.fits in
-    let f = c.if-has-start.ensures.none refl in
+    let f = c.if-has_start.ensures.none refl in
     let j = join_none V k (p s.start) (p s.end) (λ q d z. f (omega arith) d z) in
     let ik : i ≡ k = omega arith in
     let e : take i V ++ ends p s ∷ drop i V ≡ take i V ++ join (ends p s) (drop k V) =
@@ -74,20 +74,20 @@ returns-else-i-k g c =
       held = MatchResult-weaker c.insert.result c.insert.ensures.held (λ _ h. h.1 ∙ e) (λ _ h. (h.0, h.1, h.2, omega (arith, h.3)));
     }
 
-pub has-start-requires : goal.has-start-requires
-has-start-requires g c = record { fits = c.requires.fits }
+pub has_start-requires : goal.has_start-requires
+has_start-requires g c = record { fits = c.requires.fits }
 
 pub bounds-self-k : goal.bounds-self-k
-bounds-self-k g c = omega (arith, (c.if-has-start.ensures.found refl).0)
+bounds-self-k g c = omega (arith, (c.if-has_start.ensures.found refl).0)
 
-pub offset-bounds-self-k : goal.offset-bounds-self-k
-offset-bounds-self-k g c = let h : c.args.k < length c.args.self.now.places.now = omega (arith, (c.if-has-start.ensures.found refl).0) in search scaled_Fits
+pub offset_bounds-self-k : goal.offset_bounds-self-k
+offset_bounds-self-k g c = let h : c.args.k < length c.args.self.now.places.now = omega (arith, (c.if-has_start.ensures.found refl).0) in search scaled_Fits
 
-pub bounds-self-k-then-has-start : goal.bounds-self-k-then-has-start
-bounds-self-k-then-has-start g c = omega (arith, (c.if-has-start.ensures.found refl).0)
+pub bounds-self-k-then-has_start : goal.bounds-self-k-then-has_start
+bounds-self-k-then-has_start g c = omega (arith, (c.if-has_start.ensures.found refl).0)
 
-pub offset-bounds-self-k-then-has-start : goal.offset-bounds-self-k-then-has-start
-offset-bounds-self-k-then-has-start g c = let h : c.args.k < length c.args.self.now.places.now = omega (arith, (c.if-has-start.ensures.found refl).0) in search scaled_Fits
+pub offset_bounds-self-k-then-has_start : goal.offset_bounds-self-k-then-has_start
+offset_bounds-self-k-then-has_start g c = let h : c.args.k < length c.args.self.now.places.now = omega (arith, (c.if-has_start.ensures.found refl).0) in search scaled_Fits
 
 pub remove-requires : goal.remove-requires
 remove-requires g c = record { at = (c.requires.at.0, c.requires.at.1.1); fits = simp length-set c.requires.fits }
@@ -98,5 +98,5 @@ bounds-self-i g c = omega arith
 pub insert-requires : goal.insert-requires
 insert-requires g c = record { at = omega arith; fits = c.requires.fits }
 
-pub offset-bounds-self-i : goal.offset-bounds-self-i
-offset-bounds-self-i g c = let h : c.args.i < length c.args.self.now.places.now = omega arith in search scaled_Fits
+pub offset_bounds-self-i : goal.offset_bounds-self-i
+offset_bounds-self-i g c = let h : c.args.i < length c.args.self.now.places.now = omega arith in search scaled_Fits

@@ -11,9 +11,9 @@ returns g c =
     let n = c.args.self.now.len in
     let i = c.args.i in
     let k = c.args.k in
-    let q = c.move-down.new.part in
+    let q = c.move_down.new.part in
     let f = ends g.I.Index.position in
-    let l : length q ≡ n = c.move-down.auto.part ∙ length-take (n - 0) xs ∙ omega arith in
-    let h = removed_held xs q (post_of 0 (n - 0) xs) n i k (omega arith) (omega arith) (omega arith) l c.move-down.ensures in
+    let l : length q ≡ n = c.move_down.auto.part ∙ length-take (n - 0) xs ∙ omega arith in
+    let h = removed_held xs q (post_of 0 (n - 0) xs) n i k (omega arith) (omega arith) (omega arith) l c.move_down.ensures in
     let r = room xs q 0 (n - 0) (omega arith) (omega arith) in
     record { within = omega arith; lent = refl; room = r; held = ap (map f) h ∙ map_removed f (take n xs) i k }

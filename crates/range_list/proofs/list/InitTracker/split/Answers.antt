@@ -25,18 +25,18 @@ returns-then-before g c =
     let l = view_length p old c.requires.fits in
     let e = view_at (ends p) old.places.now old.len i x (0, 0) (omega arith) c.requires.fits in
     let s = length-set mid.places.now i w in
-    let room = c.in-ok-insert.ensures.room in
-    let within = c.in-ok-insert.ensures.within in
+    let room = c.in_ok-insert.ensures.room in
+    let within = c.in_ok-insert.ensures.within in
     record {
       within = omega arith;
-      lent = c.in-ok-insert.ensures.lent;
+      lent = c.in_ok-insert.ensures.lent;
       room = omega arith;
-      held = view_set (ends p) mid.places.now mid.len i w ∙ ap (λ l. set l i (p y.start, lo)) c.in-ok-insert.ensures.held.1
+      held = view_set (ends p) mid.places.now mid.len i w ∙ ap (λ l. set l i (p y.start, lo)) c.in_ok-insert.ensures.held.1
           ∙ split_held (view p old) i (omega arith) lo hi (0, 0) (ends p y) e lt c.requires.order;
     }
 
-pub returns-in-err-insert : goal.returns-in-err-insert
-returns-in-err-insert g c =
+pub returns-in_err-insert : goal.returns-in_err-insert
+returns-in_err-insert g c =
     let p = g.I.Index.position in
     let old = c.args.self.now in
     let i = c.args.i in
@@ -48,9 +48,9 @@ returns-in-err-insert g c =
     let l = view_length p old c.requires.fits in
     let e = view_at (ends p) old.places.now old.len i x (0, 0) (omega arith) c.requires.fits in
     let f = split_full (view p old) i lo hi (0, 0) (ends p y) (omega arith) e lt c.requires.order in
-    let h = c.in-err-insert.ensures.held in
-    let q = err_from_is_err_and c.from-residual.result c.from-residual.ensures.1 in
-    record { within = c.in-err-insert.ensures.within; lent = c.in-err-insert.ensures.lent; room = c.in-err-insert.ensures.room; held = rw q.1 (q.2 ∙ h.0, h.1, h.2, omega (arith, h.3)) }
+    let h = c.in_err-insert.ensures.held in
+    let q = err_from_is_err_and c.from_residual.result c.from_residual.ensures.1 in
+    record { within = c.in_err-insert.ensures.within; lent = c.in_err-insert.ensures.lent; room = c.in_err-insert.ensures.room; held = rw q.1 (q.2 ∙ h.0, h.1, h.2, omega (arith, h.3)) }
 
 pub returns : goal.returns
 returns g c =
@@ -72,28 +72,28 @@ returns g c =
     ] in
     record {
       within = omega arith;
-      lent = c.trim-start.ensures.lent;
-      room = c.trim-start.ensures.room.0;
-      held = c.trim-start.ensures.held ∙ sym (ap (λ r. take i (view p old) ++ (r ++ begun hi (drop i (view p old)))) none);
+      lent = c.trim_start.ensures.lent;
+      room = c.trim_start.ensures.room.0;
+      held = c.trim_start.ensures.held ∙ sym (ap (λ r. take i (view p old) ++ (r ++ begun hi (drop i (view p old)))) none);
     }
 
 pub insert-requires : goal.insert-requires
 insert-requires g c = record { at = omega arith; fits = c.requires.fits }
 
 pub bounds-self-i-then-before : goal.bounds-self-i-then-before
-bounds-self-i-then-before g c = omega (arith, c.in-ok-insert.ensures.room)
+bounds-self-i-then-before g c = omega (arith, c.in_ok-insert.ensures.room)
 
-pub offset-bounds-self-i-then-before : goal.offset-bounds-self-i-then-before
-offset-bounds-self-i-then-before g c = let h : c.args.i < length c.args.self.now.places.now = omega arith in search scaled_Fits
+pub offset_bounds-self-i-then-before : goal.offset_bounds-self-i-then-before
+offset_bounds-self-i-then-before g c = let h : c.args.i < length c.args.self.now.places.now = omega arith in search scaled_Fits
 
-pub trim-start-requires : goal.trim-start-requires
-trim-start-requires g c = record { at = c.requires.at; fits = c.requires.fits }
+pub trim_start-requires : goal.trim_start-requires
+trim_start-requires g c = record { at = c.requires.at; fits = c.requires.fits }
 
 pub bounds-self-i : goal.bounds-self-i
 bounds-self-i g c = omega arith
 
-pub offset-bounds-self-i : goal.offset-bounds-self-i
-offset-bounds-self-i g c = let h : c.args.i < length c.args.self.now.places.now = omega arith in search scaled_Fits
+pub offset_bounds-self-i : goal.offset_bounds-self-i
+offset_bounds-self-i g c = let h : c.args.i < length c.args.self.now.places.now = omega arith in search scaled_Fits
 
-pub overflow-add-i : goal.overflow-add-i
-overflow-add-i g c = omega arith
+pub overflow_add-i : goal.overflow_add-i
+overflow_add-i g c = omega arith

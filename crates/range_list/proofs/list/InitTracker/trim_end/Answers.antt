@@ -53,11 +53,11 @@ returns g c =
 pub bounds-self-i-then-before : goal.bounds-self-i-then-before
 bounds-self-i-then-before g c = omega arith
 
-pub offset-bounds-self-i-then-before : goal.offset-bounds-self-i-then-before
-offset-bounds-self-i-then-before g c = let h : c.args.i < length c.args.self.now.places.now = omega arith in search scaled_Fits
+pub offset_bounds-self-i-then-before : goal.offset_bounds-self-i-then-before
+offset_bounds-self-i-then-before g c = let h : c.args.i < length c.args.self.now.places.now = omega arith in search scaled_Fits
 
 pub bounds-self-i : goal.bounds-self-i
 bounds-self-i g c = omega arith
 
-pub offset-bounds-self-i : goal.offset-bounds-self-i
-offset-bounds-self-i g c = let h : c.args.i < length c.args.self.now.places.now = omega arith in search scaled_Fits
+pub offset_bounds-self-i : goal.offset_bounds-self-i
+offset_bounds-self-i g c = let h : c.args.i < length c.args.self.now.places.now = omega arith in search scaled_Fits

@@ -37,11 +37,11 @@ returns-else-k-self g c =
 pub bounds-self-k-then-k-self : goal.bounds-self-k-then-k-self
 bounds-self-k-then-k-self g c = omega arith
 
-pub offset-bounds-self-k-then-k-self : goal.offset-bounds-self-k-then-k-self
-offset-bounds-self-k-then-k-self g c = let h : c.args.k < length c.args.self.now.places.now = omega arith in search scaled_Fits
+pub offset_bounds-self-k-then-k-self : goal.offset_bounds-self-k-then-k-self
+offset_bounds-self-k-then-k-self g c = let h : c.args.k < length c.args.self.now.places.now = omega arith in search scaled_Fits
 
 pub bounds-self-k : goal.bounds-self-k
 bounds-self-k g c = omega arith
 
-pub offset-bounds-self-k : goal.offset-bounds-self-k
-offset-bounds-self-k g c = let h : c.args.k < length c.args.self.now.places.now = omega arith in search scaled_Fits
+pub offset_bounds-self-k : goal.offset_bounds-self-k
+offset_bounds-self-k g c = let h : c.args.k < length c.args.self.now.places.now = omega arith in search scaled_Fits
