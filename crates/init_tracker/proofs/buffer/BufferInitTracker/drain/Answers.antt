@@ -14,8 +14,8 @@ drain-answer-requires c =
     let h = ap length c.over-list.ensures.places in
     record { fits = omega arith; sound = (b.size, subst (Sound b.size) (sym e) (owing_sound b)) }
 
-pub invariant-of-self : goal.invariant-of-self
-invariant-of-self c =
+pub invariant_of-self : goal.invariant_of-self
+invariant_of-self c =
     let b = c.args.self.now in
     let t = c.over-list.result in
     let u = c.drain-answer.new.self in
@@ -23,7 +23,7 @@ invariant-of-self c =
     let h = ap length c.over-list.ensures.places in
     let w = c.drain-answer.ensures.sound b.size (subst (Sound b.size) (sym e) (owing_sound b)) in
     let v = over_places u u.places.now c.count-self.result (sym c.count-self.ensures) refl in
-    (omega arith, (omega arith, (∣ subst (Sound b.size) v w ∣₁, tt)))
+    record { full = omega arith; fits = omega arith; sound = ∣ subst (Sound b.size) v w ∣₁ }
 
 pub returns : goal.returns
 returns c =

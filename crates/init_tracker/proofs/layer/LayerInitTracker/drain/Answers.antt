@@ -14,8 +14,8 @@ drain-requires c =
     let h = ap length c.over-list.ensures.places in
     record { fits = omega arith; sound = (b.layers, subst (Sound b.layers) (sym e) (layers_sound b)) }
 
-pub invariant-of-self : goal.invariant-of-self
-invariant-of-self c =
+pub invariant_of-self : goal.invariant_of-self
+invariant_of-self c =
     let b = c.args.self.now in
     let t = c.over-list.result in
     let u = c.drain.new.self in
@@ -23,7 +23,7 @@ invariant-of-self c =
     let h = ap length c.over-list.ensures.places in
     let w = c.drain.ensures.sound b.layers (subst (Sound b.layers) (sym e) (layers_sound b)) in
     let v = over_places u u.places.now c.count-self.result (sym c.count-self.ensures) refl in
-    (omega arith, (omega arith, (omega arith, (∣ subst (Sound b.layers) v w ∣₁, tt))))
+    record { full = omega arith; fits = omega arith; few = omega arith; sound = ∣ subst (Sound b.layers) v w ∣₁ }
 
 pub unreachable-requires : goal.unreachable-requires
 unreachable-requires c =

@@ -6,4 +6,4 @@ use Rattle.texture.proofs.descriptor.TextureDescriptor.cells.Goals as goal
 pub returns : goal.returns
 returns c =
     let s = shape_of c.args.self in
-    record { answer = c.mip_first_lem.ensures; few = subst (λ n. n ≤ 1099511627776) (sym c.mip_first_lem.ensures) (cells_few s c.args.self.fit) }
+    record { answer = c.mip_first.ensures; few = subst (λ n. n ≤ 1099511627776) (sym c.mip_first.ensures) (cells_few s c.args.self.fit) }

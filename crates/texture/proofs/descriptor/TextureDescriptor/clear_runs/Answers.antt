@@ -30,7 +30,7 @@ pub over-requires-in-ColourPass : goal.over-requires-in-ColourPass
 over-requires-in-ColourPass c =
     let s = shape_of c.args.self in
     let in-texture = found_within s c.args.mip c.args.layer c.in-Some.first c.in-Some.ensures c.args.self.fit in
-    record { runs = (omega arith, omega arith); rows = (omega arith, omega arith); slices = omega arith; within = omega (arith, c.surface_cells_lem.ensures.answer) }
+    record { runs = (omega arith, omega arith); rows = (omega arith, omega arith); slices = omega arith; within = omega (arith, c.surface_cells.ensures.answer) }
 
 pub returns-in-None : goal.returns-in-None
 returns-in-None c =
@@ -59,6 +59,6 @@ returns-in-ColourPass c =
     let first = found_first s m l c.in-Some.first c.in-Some.ensures in
     runs_found_lem c.args.pitch s m l _ (fits c.args.pitch (omega arith) (omega arith)) (found_surface s m l c.in-Some.first c.in-Some.ensures)
     (c.over-in-ColourPass.ensures
-    ∙ single_run c.surface_cells_lem.result c.in-Some.first
-    ∙ ap₂ (λ a n. (a, n) ∷ []) first c.surface_cells_lem.ensures.answer
+    ∙ single_run c.surface_cells.result c.in-Some.first
+    ∙ ap₂ (λ a n. (a, n) ∷ []) first c.surface_cells.ensures.answer
     ∙ sym (pass_runs c.args.pitch s m l c.in-ColourPass.is))

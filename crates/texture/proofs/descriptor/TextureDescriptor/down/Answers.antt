@@ -7,6 +7,6 @@ use Rattle.texture.proofs.descriptor.TextureDescriptor.down.Goals as goal
 pub returns : goal.returns
 returns c =
     let s = shape_of c.args.self in
-    let b = c.block-height-block.result in
-    let e : (c.halved.result + (b - 1)) / b ≡ down s c.args.mip = simp (c.halved.ensures, c.block-height-block.ensures) in
+    let b = c.block_height-block.result in
+    let e : (c.halved.result + (b - 1)) / b ≡ down s c.args.mip = simp (c.halved.ensures, c.block_height-block.ensures) in
     record { answer = e; few = subst (λ n. n ≤ 16384) (sym e) (down_few s c.args.self.fit c.args.mip) }

@@ -7,16 +7,16 @@ use Rattle.texture.proofs.Sides.{mip_few, mip_first_few}
 use Rattle.texture.proofs.descriptor.cells.mip_first.Goals as goal
 
 -- what a turn adds is the mip's surfaces
-added : (c : goal.After-surface-cells) → c.layers-layers.result * c.surface_cells_lem.result ≡ layers_of (shape_of c.args.descriptor) * surface_cells (shape_of c.args.descriptor) c.loop-m.m
-added c = ap₂ ◌*◌ c.layers-layers.ensures.answer c.surface_cells_lem.ensures.answer
+added : (c : goal.After-surface_cells) → c.layers-layers.result * c.surface_cells.result ≡ layers_of (shape_of c.args.descriptor) * surface_cells (shape_of c.args.descriptor) c.loop-m.m
+added c = ap₂ ◌*◌ c.layers-layers.ensures.answer c.surface_cells.ensures.answer
 
-pub overflow-mul-first : goal.overflow-mul-first
-overflow-mul-first c =
+pub overflow_mul-first : goal.overflow_mul-first
+overflow_mul-first c =
     let s = shape_of c.args.descriptor in
     omega (arith, added c, mip_few s c.args.descriptor.fit c.loop-m.m)
 
-pub overflow-add-first : goal.overflow-add-first
-overflow-add-first c =
+pub overflow_add-first : goal.overflow_add-first
+overflow_add-first c =
     let s = shape_of c.args.descriptor in
     let h = c.args.descriptor.fit in
     omega (arith, added c, mip_few s h c.loop-m.m, mip_first_few s h c.loop-m.m, (mips_kept s h).1, c.loop-m.invariant)

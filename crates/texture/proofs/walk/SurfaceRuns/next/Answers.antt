@@ -18,17 +18,17 @@ first_taken w t e some =
     subst (λ x. runs_left w ≡ (w.first, x * w.wide) ∷ walked (w.first + x * w.wide) w.wide w.each (w.left - x) w.rows w.slices) (sym e)
     (walked_next w.first w.wide w.each w.left w.rows w.slices w.whole (omega arith))
 
-pub overflow-add-self : goal.overflow-add-self
-overflow-add-self c = omega (arith, (within c.in-slice-walk.result c.min-rows.result c.min-rows.ensures).1)
+pub overflow_add-self : goal.overflow_add-self
+overflow_add-self c = omega (arith, (within c.in_slice-walk.result c.min-rows.result c.min-rows.ensures).1)
 
-pub invariant-of-self : goal.invariant-of-self
-invariant-of-self c =
-    let w = c.in-slice-walk.result in
+pub invariant_of-self : goal.invariant_of-self
+invariant_of-self c =
+    let w = c.in_slice-walk.result in
     let k = within w c.min-rows.result c.min-rows.ensures in
-    (w.whole, (w.many, (w.tall, (w.low, (omega (arith, w.short), (w.thin, (k.1, tt)))))))
+    record { whole = w.whole; many = w.many; tall = w.tall; low = w.low; short = omega (arith, w.short); thin = w.thin; within = k.1 }
 
 pub returns : goal.returns
 returns c =
-    let w = c.in-slice-walk.result in
-    let step = sym c.in-slice-walk.ensures.same ∙ first_taken w c.min-rows.result c.min-rows.ensures c.if-walk-eq0.false in
+    let w = c.in_slice-walk.result in
+    let step = sym c.in_slice-walk.ensures.same ∙ first_taken w c.min-rows.result c.min-rows.ensures c.if-walk-eq0.false in
     record { answer = sym (ap first_run step); after = sym (ap rest_runs step) }
