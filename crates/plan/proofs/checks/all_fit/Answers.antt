@@ -11,14 +11,14 @@ pub loop-i-preserved : goal.loop-i-preserved
 loop-i-preserved g c =
     let e = (g.D.Device.meaning c.args.device.now).extent in (
       omega arith,
-      test_passes (λ p. fits_in e (clear_of p)) (λ ps. all_fit e (clears_of ps)) (λ _ _. refl) c.args.pieces.now c.loop-i.i blank c.loop-i-test.true (sym c.if-not-piece-fits.ensures)
+      test_passes (λ p. fits_in e (clear_of p)) (λ ps. all_fit e (clears_of ps)) (λ _ _. refl) c.args.pieces.now c.loop-i.i blank c.loop-i-test.true (sym c.if-not-piece_fits.ensures)
           ∙ c.loop-i.invariant.1,
     )
 
-pub returns-then-not-piece-fits : goal.returns-then-not-piece-fits
-returns-then-not-piece-fits g c =
+pub returns-then-not-piece_fits : goal.returns-then-not-piece_fits
+returns-then-not-piece_fits g c =
     let e = (g.D.Device.meaning c.args.device.now).extent in
-    sym (sym c.loop-i.invariant.1 ∙ test_fails (λ p. fits_in e (clear_of p)) (λ ps. all_fit e (clears_of ps)) (λ _ _. refl) c.args.pieces.now c.loop-i.i blank c.loop-i-test.true (sym c.if-not-piece-fits.ensures))
+    sym (sym c.loop-i.invariant.1 ∙ test_fails (λ p. fits_in e (clear_of p)) (λ ps. all_fit e (clears_of ps)) (λ _ _. refl) c.args.pieces.now c.loop-i.i blank c.loop-i-test.true (sym c.if-not-piece_fits.ensures))
 
 pub returns : goal.returns
 returns g c =

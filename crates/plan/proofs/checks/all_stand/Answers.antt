@@ -24,16 +24,16 @@ loop-k-preserved c =
     let k = c.loop-k.k in
     let V = view_buffers c.args.buffers.now in
     let s = get_or ss k blank in
-    let stands = sym (ap (λ n. (get_or V n no_buffer).standing) c.buffer-number.ensures) ∙ sym c.if-not-is-standing.ensures in
+    let stands = sym (ap (λ n. (get_or V n no_buffer).standing) c.buffer-number.ensures) ∙ sym c.if-not-is_standing.ensures in
     (omega arith, sym (at_drop_more (all_stand V k) ss k blank c.loop-k-test.true ∙ cond-true (get_or V (buffer_of s) no_buffer).standing _ _ stands) ∙ c.loop-k.invariant.1)
 
-pub returns-then-not-is-standing : goal.returns-then-not-is-standing
-returns-then-not-is-standing c =
+pub returns-then-not-is_standing : goal.returns-then-not-is_standing
+returns-then-not-is_standing c =
     let ss = c.args.steps.now in
     let k = c.loop-k.k in
     let V = view_buffers c.args.buffers.now in
     let s = get_or ss k blank in
-    let fallen = sym (ap (λ n. (get_or V n no_buffer).standing) c.buffer-number.ensures) ∙ sym c.if-not-is-standing.ensures in
+    let fallen = sym (ap (λ n. (get_or V n no_buffer).standing) c.buffer-number.ensures) ∙ sym c.if-not-is_standing.ensures in
     ap Err (c.new.ensures ∙ ap (λ n. fault_of Submit Destroyed n k) c.buffer-number.ensures)
     ∙ sym (at_drop_more (all_stand V k) ss k blank c.loop-k-test.true ∙ cond-false (get_or V (buffer_of s) no_buffer).standing _ _ fallen) ∙ c.loop-k.invariant.1
 

@@ -7,13 +7,13 @@ use Rattle.rules.specs.declared.step.Step.TheVariants.{BufferRead}
 use Rattle.plan.proofs.Runs.{commands_few}
 use Rattle.device.specs.declared.command.Command.{Command}
 use Rattle.plan.proofs.checks.count_commands.Goals as goal
-use Rattle.plan.proofs.checks.count_commands.Goals.{then-is-some, else-is-some}
+use Rattle.plan.proofs.checks.count_commands.Goals.{then-is_some, else-is_some}
 
 abbrev blank : Step
 blank = BufferRead 0 0 0
 
-pub overflow-add-count : goal.overflow-add-count
-overflow-add-count c = omega (arith, c.requires, c.loop-step.invariant, commands_few c.args.steps.now)
+pub overflow_add-count : goal.overflow_add-count
+overflow_add-count c = omega (arith, c.requires, c.loop-step.invariant, commands_few c.args.steps.now)
 
 -- one command or none
 one_or_none : (o : Option Command) → length (option_to_list o) ≡ cond (is_some o) 1 0
@@ -27,14 +27,14 @@ loop-step-preserved c =
     let s = get_or ss i blank in
     let o = c.command.result in
     let l = ap length (at_drop_more step_commands ss i blank c.loop-step-test.true) ∙ length-append (commands_of s) (step_commands (drop (i + 1) ss)) in
-    let n : length (commands_of s) ≡ cond c.is-some.result 1 0 =
-    sym (ap length c.command.ensures) ∙ one_or_none o ∙ ap (λ b. cond b 1 0) (sym c.is-some.ensures) in
-    elim c.if-is-some.branch [
-      | then-is-some w ↦
-          let one = n ∙ ap (λ b. cond b 1 0) w.if-is-some.true in
+    let n : length (commands_of s) ≡ cond c.is_some.result 1 0 =
+    sym (ap length c.command.ensures) ∙ one_or_none o ∙ ap (λ b. cond b 1 0) (sym c.is_some.ensures) in
+    elim c.if-is_some.branch [
+      | then-is_some w ↦
+          let one = n ∙ ap (λ b. cond b 1 0) w.if-is_some.true in
           omega (arith, c.loop-step.invariant, l, one, w.count-is)
-      | else-is-some w ↦
-          let none = n ∙ ap (λ b. cond b 1 0) w.if-is-some.false in
+      | else-is_some w ↦
+          let none = n ∙ ap (λ b. cond b 1 0) w.if-is_some.false in
           omega (arith, c.loop-step.invariant, l, none, w.count-is)
     ]
 

@@ -9,13 +9,13 @@ pub loop-k-preserved : goal.loop-k-preserved
 loop-k-preserved g c =
     let e = (g.D.Device.meaning c.args.device.now).extent in (
       omega arith,
-      test_passes (step_fits e) (steps_fit e) (λ _ _. refl) c.args.steps.now c.loop-k.k (BufferRead 0 0 0) c.loop-k-test.true (sym c.if-not-step-fits.ensures) ∙ c.loop-k.invariant.1,
+      test_passes (step_fits e) (steps_fit e) (λ _ _. refl) c.args.steps.now c.loop-k.k (BufferRead 0 0 0) c.loop-k-test.true (sym c.if-not-step_fits.ensures) ∙ c.loop-k.invariant.1,
     )
 
-pub returns-then-not-step-fits : goal.returns-then-not-step-fits
-returns-then-not-step-fits g c =
+pub returns-then-not-step_fits : goal.returns-then-not-step_fits
+returns-then-not-step_fits g c =
     let e = (g.D.Device.meaning c.args.device.now).extent in
-    sym (sym c.loop-k.invariant.1 ∙ test_fails (step_fits e) (steps_fit e) (λ _ _. refl) c.args.steps.now c.loop-k.k (BufferRead 0 0 0) c.loop-k-test.true (sym c.if-not-step-fits.ensures))
+    sym (sym c.loop-k.invariant.1 ∙ test_fails (step_fits e) (steps_fit e) (λ _ _. refl) c.args.steps.now c.loop-k.k (BufferRead 0 0 0) c.loop-k-test.true (sym c.if-not-step_fits.ensures))
 
 pub returns : goal.returns
 returns g c =

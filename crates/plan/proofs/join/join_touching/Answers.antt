@@ -11,8 +11,8 @@ loop-i-init c =
     let e = drop_all (length xs) xs (omega arith) in
     (omega arith, omega arith, refl, e ∙ sym (ap join_all e))
 
-pub join-one-w-requires : goal.join-one-w-requires
-join-one-w-requires c = (omega arith, omega arith)
+pub join_one-w-requires : goal.join_one-w-requires
+join_one-w-requires c = (omega arith, omega arith)
 
 pub loop-i-preserved : goal.loop-i-preserved
 loop-i-preserved c =
@@ -23,10 +23,10 @@ loop-i-preserved c =
     let e : c.loop-i.i ≡ i + 1 = omega arith in
     let front : take (i + 1) xs ≡ take (i + 1) old = ap (λ m. take m xs) (sym e) ∙ c.loop-i.invariant.2 ∙ ap (λ m. take m old) e in
     let back : drop w xs ≡ join_all (drop (i + 1) old) = c.loop-i.invariant.3 ∙ ap (λ m. join_all (drop m old)) e in (
-      omega (arith, c.join-one-w.ensures.within),
-      omega (arith, c.join-one-w.ensures.within),
-      c.join-one-w.ensures.front ∙ sym (take-take i (i + 1) xs (omega arith)) ∙ ap (take i) front ∙ take-take i (i + 1) old (omega arith),
-      c.join-one-w.ensures.joined ∙ joined_more old xs i blank (omega arith) front (drop w xs) back,
+      omega (arith, c.join_one-w.ensures.within),
+      omega (arith, c.join_one-w.ensures.within),
+      c.join_one-w.ensures.front ∙ sym (take-take i (i + 1) xs (omega arith)) ∙ ap (take i) front ∙ take-take i (i + 1) old (omega arith),
+      c.join_one-w.ensures.joined ∙ joined_more old xs i blank (omega arith) front (drop w xs) back,
     )
 
 pub returns : goal.returns

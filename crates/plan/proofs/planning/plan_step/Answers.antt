@@ -26,17 +26,17 @@ returns c =
     let bs = c.args.buffers.now in
     let s = c.args.step in
     let d = c.index-buffers-n.result in
-    let f = step_facts bs s d c.buffer-number.result c.start-from.result c.cover-end-to.result (omega (arith, c.told-buffers)) c.buffer-number.ensures c.start-from.ensures c.cover-end-to.ensures in
+    let f = step_facts bs s d c.buffer-number.result c.start-from.result c.cover_end-to.result (omega (arith, c.told-buffers)) c.buffer-number.ensures c.start-from.ensures c.cover_end-to.ensures in
     record {
       answer = f.answer c.drain-answer.result c.drain-answer.ensures.answer;
       after = λ ok. f.after _ c.drain-answer.result c.drain-answer.ensures.answer ok c.drain-answer.ensures.after refl refl refl;
       held = elim c.if-looks.branch [
         | then-looks w ↦
-            ap kept w.pieces-is ∙ w.keep-pieces.ensures.held ∙ sym (ap (all_placed (kept c.args.pieces.now)) (f.looking (sym c.looks.ensures ∙ w.if-looks.true)))
+            ap kept w.pieces-is ∙ w.keep_pieces.ensures.held ∙ sym (ap (all_placed (kept c.args.pieces.now)) (f.looking (sym c.looks.ensures ∙ w.if-looks.true)))
         | else-looks w ↦ ap kept w.pieces-is ∙ sym (ap (all_placed (kept c.args.pieces.now)) (f.blind (sym c.looks.ensures ∙ w.if-looks.false)))
       ];
       few = elim c.if-looks.branch [
-        | then-looks w ↦ omega (arith, ap (λ p. length (kept p)) w.pieces-is, w.keep-pieces.ensures.few)
+        | then-looks w ↦ omega (arith, ap (λ p. length (kept p)) w.pieces-is, w.keep_pieces.ensures.few)
         | else-looks w ↦ omega (arith, ap (λ p. length (kept p)) w.pieces-is)
       ];
     }

@@ -23,8 +23,8 @@ loop-k-init c =
     let e = c.requires.none in
     (omega arith, omega (arith, ap length e), c.requires.small, refl, refl, ap (λ qs. all_placed qs (all_taken (view_buffers c.args.buffers.now) c.args.steps.now)) e)
 
-pub plan-step-requires : goal.plan-step-requires
-plan-step-requires c =
+pub plan_step-requires : goal.plan_step-requires
+plan_step-requires c =
     record { small = (small_here c.args.steps.now c.loop-k.k blank c.loop-k-test.true c.loop-k.invariant.2).0; room = omega (arith, c.requires.few) }
 
 pub loop-k-preserved : goal.loop-k-preserved
@@ -34,7 +34,7 @@ loop-k-preserved c =
     let lt = c.loop-k-test.true in
     let s = get_or ss k blank in
     let V = view_buffers c.loop-k.buffers in
-    let W = view_buffers c.plan-step.new.buffers in
+    let W = view_buffers c.plan_step.new.buffers in
     let rest = drop (k + 1) ss in
     let told = c.in-Ok.ensures in
     let held : holds V s ≡ true = ok_holds (holds V s) told.answer in
@@ -44,7 +44,7 @@ loop-k-preserved c =
       (small_here ss k blank lt c.loop-k.invariant.2).1,
       ap (λ v. all_hold v (k + 1) rest) e ∙ sym (hold_here V k ss blank lt held) ∙ c.loop-k.invariant.3,
       ap (λ v. drain_steps v rest) e ∙ sym (at_drop_more (drain_steps V) ss k blank lt) ∙ c.loop-k.invariant.4,
-      ap (λ v. all_placed (kept c.plan-step.new.pieces) (all_taken v rest)) e
+      ap (λ v. all_placed (kept c.plan_step.new.pieces) (all_taken v rest)) e
           ∙ ap (λ qs. all_placed qs (all_taken (drain_step V s) rest)) told.held
           ∙ sym (all_placed_append (kept c.loop-k.pieces) (taken V s) (all_taken (drain_step V s) rest))
           ∙ sym (ap (all_placed (kept c.loop-k.pieces)) (at_drop_more (all_taken V) ss k blank lt))

@@ -23,8 +23,8 @@ commands_left : (ss : List Step) (k : ℕ) → k < length ss → length (step_co
 commands_left ss k lt =
     ap length (at_drop_more step_commands ss k blank lt) ∙ length-append (commands_of (get_or ss k blank)) (step_commands (drop (k + 1) ss))
 
-pub run-step-after-requires : goal.run-step-after-requires
-run-step-after-requires g c =
+pub run_step-after-requires : goal.run_step-after-requires
+run_step-after-requires g c =
     let ss = c.args.steps.now in
     let k = c.loop-k.k in
     let old = g.D.Device.meaning c.args.device.now in
@@ -62,7 +62,7 @@ loop-k-preserved g c =
     let s = get_or ss k blank in
     let old = c.args.device.now in
     let here = c.loop-k.device in
-    let new = c.run-step-after.new.device in
+    let new = c.run_step-after.new.device in
     let mean = g.D.Device.meaning in
     let f = (mean old).cell in
     let xs = step_commands (take k ss) in
@@ -79,17 +79,17 @@ loop-k-preserved g c =
     let later : befores ++ commands_before c.loop-k.after (s ∷ []) ≡ commands_before c.args.done (take (k + 1) ss) =
     ap (λ m. befores ++ commands_before m (s ∷ [])) c.loop-k.invariant.3
     ∙ sym (ap (commands_before c.args.done) (take_more ss k blank lt) ∙ befores_push c.args.done (take k ss) s) in
-    let reported : c.run-step-after.new.report ≡ filled r (step_sums f (take (k + 1) ss)) (commands_before c.args.done (take (k + 1) ss)) =
-    c.run-step-after.ensures.report
+    let reported : c.run_step-after.new.report ≡ filled r (step_sums f (take (k + 1) ss)) (commands_before c.args.done (take (k + 1) ss)) =
+    c.run_step-after.ensures.report
     ∙ ap (λ x. noted_step x (sums_of (mean here).cell s) c.loop-k.after) c.loop-k.invariant.4
     ∙ ap (λ l. noted_step (filled r sums befores) l c.loop-k.after) same
     ∙ filled_push r sums befores (ran f xs) s c.loop-k.after (befores_sums c.args.done f (take k ss)) (omega arith) (omega arith)
     ∙ ap (λ l. filled r l (befores ++ commands_before c.loop-k.after (s ∷ []))) more
     ∙ ap (λ l. filled r (step_sums f (take (k + 1) ss)) l) later in (
       omega arith,
-      subst (λ (l : List Command). Followed (mean old) l (mean new)) e (followed_then (mean old) (mean here) (mean new) xs (commands_of s) so c.run-step-after.ensures.followed),
-      subst (λ (l : List Command). g.D.Device.keeps old l new) e (g.met.D.Device.more old here new xs (commands_of s) c.loop-k.invariant.2 c.run-step-after.ensures.kept),
-      omega (arith, c.run-step-after.ensures.done, n),
+      subst (λ (l : List Command). Followed (mean old) l (mean new)) e (followed_then (mean old) (mean here) (mean new) xs (commands_of s) so c.run_step-after.ensures.followed),
+      subst (λ (l : List Command). g.D.Device.keeps old l new) e (g.met.D.Device.more old here new xs (commands_of s) c.loop-k.invariant.2 c.run_step-after.ensures.kept),
+      omega (arith, c.run_step-after.ensures.done, n),
       reported,
       (steps_fit_here (mean old).extent ss k blank lt c.loop-k.invariant.5).1,
       omega (arith, commands_left ss k lt, n),

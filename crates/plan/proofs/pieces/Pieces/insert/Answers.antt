@@ -19,12 +19,12 @@ opened xs q n i p lt within h =
     let e = opened_is xs q n i p lt h in
     (e, ap length e ∙ length-insert (take n xs) i p le ∙ ap (λ m. m + 1) t)
 
-pub invariant-of-self : goal.invariant-of-self
-invariant-of-self c =
+pub invariant_of-self : goal.invariant_of-self
+invariant_of-self c =
     let s = c.args.self.now in
     let t = length-take-le s.len s.places (omega arith) in
-    let o = opened s.places c.open-at.new.part s.len c.position-i.result c.args.p (omega arith) c.position-i.ensures.within c.open-at.ensures in
-    (room s.places c.open-at.new.part 0 (s.len + 1 - 0) (omega arith) (omega (arith, o.1)) ∙ s.full, (omega arith, tt))
+    let o = opened s.places c.open_at.new.part s.len c.position-i.result c.args.p (omega arith) c.position-i.ensures.within c.open_at.ensures in
+    record { full = room s.places c.open_at.new.part 0 (s.len + 1 - 0) (omega arith) (omega (arith, o.1)) ∙ s.full; fits = omega arith }
 
 pub returns : goal.returns
 returns c =
@@ -34,5 +34,5 @@ returns c =
     let t = length-take-le n xs (omega arith) in
     let z : n - 0 ≡ n = omega arith in
     let there : placed c.args.p (take n xs) ≡ insert (take n xs) c.position-i.result c.args.p = rw z at c.position-i.ensures.there in
-    let o = opened xs c.open-at.new.part n c.position-i.result c.args.p (omega arith) c.position-i.ensures.within c.open-at.ensures in
-    take_at c.open-at.new.part (post_of 0 (n + 1 - 0) xs) (n + 1) o.1 ∙ o.0 ∙ sym there
+    let o = opened xs c.open_at.new.part n c.position-i.result c.args.p (omega arith) c.position-i.ensures.within c.open_at.ensures in
+    take_at c.open_at.new.part (post_of 0 (n + 1 - 0) xs) (n + 1) o.1 ∙ o.0 ∙ sym there
