@@ -1,5 +1,6 @@
 -- A planner just made, or not made.
 use Rattle.std.specs.Prelude.{◌≡◌, ℕ, Bool, ◌&&◌, nat_le}
+use Rattle.device.specs.declared.interface.Device.{Ghosts}
 use Rattle.fault.specs.declared.refusal.Refusal.TheVariants.{BadDescription}
 use Rattle.rules.specs.State.{new_state}
 use Rattle.planner.specs.View.{view}
@@ -11,7 +12,7 @@ abbrev pub pitched : ℕ → Bool
 pitched n = nat_le 1 n && nat_le n 256
 
 -- nothing is made yet, and the device is the one given
-pub record Fresh {D : Type 0} (given : D) (mark pitch : ℕ) (p : Planner D) : Type 0 where
+pub record Fresh {D : Type 0} {ghosts : Ghosts D} (given : D) (mark pitch : ℕ) (p : Planner D ghosts) : Type 0 where
   pub state : view p ≡ new_state mark pitch
   pub device : p.device ≡ given
 

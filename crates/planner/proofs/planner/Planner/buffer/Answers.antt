@@ -12,4 +12,4 @@ returns-then-n-lt-BUFFERS g c =
 pub returns-else-n-lt-BUFFERS : goal.returns-else-n-lt-BUFFERS
 returns-else-n-lt-BUFFERS g c =
     let bs = c.args.self.now.buffers in
-    c.no-buffer.ensures ∙ sym (get_or_past (view_buffers bs) c.args.number no_buffer (omega (arith, length-map bs view_buffer)))
+    c.no_buffer.ensures ∙ sym (get_or_past (view_buffers bs) c.args.number no_buffer (omega (arith, length-map bs view_buffer)))
