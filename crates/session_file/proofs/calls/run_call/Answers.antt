@@ -23,11 +23,11 @@ returns c =
     let told = c.perform-answer.ensures in
     let was : c.written-before.result.now ≡ written old = c.written-before.ensures ∙ ap written c.device.ensures in
     let is : c.written.result.now ≡ written new = c.written.ensures ∙ ap written c.device-2.ensures in
-    let commands : c.since_commands.result.now ≡ o.commands =
-    c.since_commands.ensures ∙ ap (λ xs. drop (length xs) c.written.result.now) was ∙ ap (drop (length (written old))) is
+    let commands : c.since-commands.result.now ≡ o.commands =
+    c.since-commands.ensures ∙ ap (λ xs. drop (length xs) c.written.result.now) was ∙ ap (drop (length (written old))) is
     ∙ since-given old new o.commands told.kept in
     record {
-      lists = c.in-ok-write-call.ensures ∙ ap (λ xs. vec_items c.args.out.now ++ xs) (same_lines c.args.number _ _ _ _ _ _ told.answer commands told.report);
+      lists = c.in_ok-write_call.ensures ∙ ap (λ xs. vec_items c.args.out.now ++ xs) (same_lines c.args.number _ _ _ _ _ _ told.answer commands told.report);
       moves = moment_after st _ old new report _ o told.state told.kept told.report;
       keeps = told.kept;
     }

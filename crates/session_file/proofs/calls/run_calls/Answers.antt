@@ -9,12 +9,12 @@ use Rattle.session_file.proofs.Moments.{performed_done, still_made}
 use Rattle.session_file.proofs.Turns.{call_within, lines_none, lines_bad, turned}
 use Rattle.session_file.proofs.calls.run_calls.Goals as goal
 
-pub returns-in-default : goal.returns-in-default
-returns-in-default c =
+pub returns-in_default : goal.returns-in_default
+returns-in_default c =
     let left = c.args.header.calls - c.loop-k.k in
     let xs = c.args.calls.now in
-    let none : call_of (drop c.loop-k.at xs) ≡ None = ap call_of (sym (take_rest xs c.loop-k.at)) ∙ sym c.in-default.ensures in
-    c.in-ok-write-bad.ensures
+    let none : call_of (drop c.loop-k.at xs) ≡ None = ap call_of (sym (take_rest xs c.loop-k.at)) ∙ sym c.in_default.ensures in
+    c.in_ok-write_bad.ensures
     ∙ ap (λ ys. vec_items c.loop-k.out ++ ys) (sym (lines_bad c.args.header left (left - 1) c.loop-k.k _ _ (omega arith) none))
     ∙ c.loop-k.invariant.2
 
@@ -28,7 +28,7 @@ loop-k-preserved c =
     let j = c.loop-k.planner.device in
     let r = c.loop-k.records.report in
     let made = c.loop-k.invariant.1 in
-    let told = c.in-ok-run-call.ensures in
+    let told = c.in_ok-run_call.ensures in
     let some : call_of (drop at xs) ≡ Some c.in-Some.call = ap call_of (sym (take_rest xs at)) ∙ sym c.in-Some.ensures in
     let within : 32 ≤ length (drop at xs) = call_within (drop at xs) c.in-Some.call some in (
       omega (arith, length-drop at xs),

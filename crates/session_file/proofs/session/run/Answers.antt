@@ -15,5 +15,5 @@ returns c =
     let r = c.new-report.result in
     let fresh = c.in-Ok.ensures.made in
     let begins : moment_of st j r ≡ beginning h =
-    moment_begins h st j r fresh.state (ap written fresh.device ∙ c.in-ok-journal.ensures.1) c.new-report.ensures in
-    whole h c.args.input.now (moment_of st j r) _ _ c.in-Some.ensures begins c.new-out.ensures.items c.in-ok-ran.ensures
+    moment_begins h st j r fresh.state (ap written fresh.device ∙ c.in_ok-journal.ensures.1) c.new-report.ensures in
+    whole h c.args.input.now (moment_of st j r) _ _ c.in-Some.ensures begins c.new-out.ensures.items c.in_ok-ran.ensures

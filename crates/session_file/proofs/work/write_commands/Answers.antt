@@ -9,7 +9,7 @@ loop-command-init c = refl
 
 pub loop-command-preserved : goal.loop-command-preserved
 loop-command-preserved c =
-    written_more _ _ _ _ _ _ c.in-ok-write-command.ensures
+    written_more _ _ _ _ _ _ c.in_ok-write_command.ensures
     (at_drop_more command_lines c.args.commands.now c.loop-command.command-index _ c.loop-command-test.true)
     c.loop-command.invariant
 

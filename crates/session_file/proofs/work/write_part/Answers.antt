@@ -13,6 +13,6 @@ returns-then-from-end c =
 pub returns : goal.returns
 returns c =
     let cs = c.args.commands.now in
-    c.in-ok-write-commands.ensures
+    c.in_ok-write_commands.ensures
     ∙ ap (λ n. vec_items c.args.out.now ++ command_lines (take (n - c.args.from) (drop c.args.from cs))) c.min-end.ensures
     ∙ ap (λ xs. vec_items c.args.out.now ++ command_lines xs) (part_some cs c.args.from c.args.to)

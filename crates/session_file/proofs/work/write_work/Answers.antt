@@ -17,8 +17,8 @@ loop-i-preserved c =
     let befores : length report.before ≡ 64 = omega arith in
     let line = sum_line (get_or report.sums i 0) in
     let later = worked c.args.commands.now (get_or report.before i 0) (drop (i + 1) (reads_of report)) in
-    written_more _ _ line (line ++ later) later _ c.in-ok-write-sum.ensures refl
-    (written_more _ _ _ _ _ _ c.in-ok-write-part.ensures
+    written_more _ _ line (line ++ later) later _ c.in_ok-write_sum.ensures refl
+    (written_more _ _ _ _ _ _ c.in_ok-write_part.ensures
     (ap (worked c.args.commands.now c.loop-i.at) (reads_more report i sums befores (omega arith)))
     c.loop-i.invariant)
 
@@ -29,7 +29,7 @@ returns c =
     let at = c.loop-i.at in
     let sums : length report.sums ≡ 64 = omega arith in
     let befores : length report.before ≡ 64 = omega arith in
-    c.in-ok-write-part-2.ensures
+    c.in_ok-write_part-2.ensures
     ∙ ap (λ xs. vec_items c.loop-i.out ++ command_lines xs) (take_rest cs at)
     ∙ ap (λ rs. vec_items c.loop-i.out ++ worked cs at rs) (sym (reads_all report c.loop-i.i sums befores (omega arith)))
     ∙ c.loop-i.invariant
