@@ -1,5 +1,5 @@
 -- A mip's list of layers: its ranges keep apart within at most 64 layers, so that 32 places hold them after every change.
-use Rattle.std.proofs.Common.{◌≡◌, ℕ, ◌<◌, ◌≤◌, ltb, List, length, arith}
+use Rattle.std.proofs.Common.{◌≡◌, ℕ, ◌≤◌, ltb, List, length, arith}
 use Rattle.std.proofs.lemmas.Bool.{cond_both, ltb-true}
 use Rattle.range_list.specs.Ranges.{Sound, added, discarded}
 use Rattle.range_list.proofs.Laws.{few_ranges, sound_discarded, sound_held}

@@ -1,32 +1,31 @@
 -- The clears ahead of the steps name each cell that reads take out of the books, once, and no other.
-use Rattle.std.proofs.Common.{◌≡◌, ℕ, ◌+◌, ◌-◌, ◌<◌, ◌≤◌, Bool, true, false, cond, not, ◌&&◌, ◌||◌, eqb, ltb, leb, ◌⊎◌, List, [], ◌∷◌, ◌++◌, map, length, get_or, sym, refl, ap, ◌∙◌, subst, ap₂, inl, inr, ⊎_elim, arith}
+use Rattle.std.proofs.Common.{◌≡◌, ℕ, ◌+◌, ◌<◌, ◌≤◌, Bool, true, false, cond, not, ◌&&◌, ◌||◌, eqb, ltb, List, [], ◌∷◌, ◌++◌, get_or, sym, refl, ap, ◌∙◌, subst, ⊎_elim, arith}
 use mathlib.Core.List.{map-append}
 use Rattle.std.proofs.lemmas.Bool.Decides.{nat_tests}
-use Rattle.std.proofs.lemmas.Bool.{lt-ltb, le-ltb, ne_eqb, cases_eq, cases_lt, cases_Bool}
+use Rattle.std.proofs.lemmas.Bool.{lt-ltb, le-ltb, ne_eqb, cases_eq, cases_Bool}
 use Rattle.texture.specs.Shapes.{Shape, layers_of}
 use Rattle.texture.specs.Cells.{mip_of, layer_of}
 use Rattle.texture.specs.Runs.{clears, pitch_fits}
 use Rattle.texture.specs.declared.format.ClearMode.{ClearMode}
 use Rattle.texture.specs.declared.format.ClearMode.TheVariants as mode
-use Rattle.device.specs.declared.command.Command.{Command}
-use Rattle.range_list.specs.Ranges.{inside, member, pieces, Sound, SoundFrom}
+use Rattle.range_list.specs.Ranges.{inside, member, pieces, Sound}
 use Rattle.range_list.proofs.Laws.{member_pieces, sound_pieces}
-use Rattle.rules.specs.State.{Book, Buffer, Texture, no_buffer}
-use Rattle.rules.specs.Uses.{buffer_of, start_of, cover_end}
-use Rattle.rules.specs.Planning.{drain_step, taken, all_taken, planned, clears_of, clear_of, join_all, all_placed, piece_of}
+use Rattle.rules.specs.State.{Buffer, Texture, no_buffer}
+use Rattle.rules.specs.Uses.{buffer_of, cover_end}
+use Rattle.rules.specs.Planning.{drain_step, taken, all_taken, planned, clears_of, clear_of}
 use Rattle.rules.specs.declared.piece.Piece.{Piece}
 use Rattle.rules.specs.declared.step.Step.{Step}
 use Rattle.rules.specs.declared.step.Step.TheVariants as step
-use Rattle.law.specs.Pages.{Area, Surface, ListStep, OnBuffer, TextureRead, TextureWrite, ClearTexture, SettledClear, Discard, buffer_count, texture_in, in_area}
+use Rattle.law.specs.Pages.{Area, ListStep, OnBuffer, TextureRead, TextureWrite, ClearTexture, SettledClear, Discard, buffer_count, texture_in, in_area}
 use Rattle.law.specs.Uses.{clear_mips, drained_by, needed_by, needed_by_all, on_buffers, owes_any}
 use Rattle.law.specs.Recording.{unclearable}
 use Rattle.law.specs.Submitting.{buffers_after, cant_clear}
-use Rattle.law.specs.Ledger.{Cells, Sizes, Each, Effect, Looks, Writes, Zeroes, Begins, Passes, slot_count}
-use Rattle.law.proofs.Commands.{times, times_both, AllInside, AllLeave, Paints, paints_as, paints_none, paints_both}
-use Rattle.law.proofs.Surfaces.{Textured, clear_surface_lem}
-use Rattle.law.proofs.Shelves.{book_at, AllSound, clear_mips_lem, clear_none}
+use Rattle.law.specs.Ledger.{Sizes, Effect, Looks, Writes, Zeroes, Begins, Passes, slot_count}
+use Rattle.law.proofs.Commands.{times, times_both, Paints, paints_as, paints_none, paints_both}
+use Rattle.law.proofs.Surfaces.{clear_surface_lem}
+use Rattle.law.proofs.Shelves.{book_at, clear_mips_lem, clear_none}
 use Rattle.law.proofs.Pieces.{AllFine, range_times, range_fine, kept_times, kept_fine, fine_inside, clears_leave}
-use Rattle.law.proofs.Moves.{leaves, takes, by, Work, drained_set, drained_in}
+use Rattle.law.proofs.Moves.{leaves, takes, by, drained_set, drained_in}
 use Rattle.law.proofs.Works.{ValidRange, ValidArea, Valid, AllValid, work_of, works_of}
 use Rattle.law.proofs.Shelving.{book_set, set_low, set_high, Shelved, book_step, shelve_step, drained_same}
 

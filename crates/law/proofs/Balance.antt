@@ -1,6 +1,6 @@
 -- Under any choice of clears, what began to owe was cleared, or written over, or owes still: one list of turns.
-use Rattle.std.proofs.Common.{◌≡◌, ℕ, ◌+◌, Bool, true, false, cond, not, ◌&&◌, ◌||◌, List, [], ◌∷◌, refl, arith}
-use Rattle.law.specs.Ledger.{Cells, nobody, Effect, Looks, Writes, Zeroes, Begins, Passes, Marks, clear, act, over, begin, Sizes, count_all, Deed, Turn, turn, turned, after_turns, added_up, ended, overs, begins}
+use Rattle.std.proofs.Common.{◌≡◌, ◌+◌, Bool, cond, not, ◌&&◌, ◌||◌, List, [], ◌∷◌, arith}
+use Rattle.law.specs.Ledger.{Cells, Effect, Looks, Writes, Zeroes, Begins, Passes, Marks, clear, act, over, begin, Sizes, count_all, Turn, turn, turned, after_turns, added_up, ended, overs, begins}
 use Rattle.law.proofs.Sums.{sum_five}
 
 same_balance : (o c : Bool) → cond o 1 0 + 0 ≡ cond (o && c) 1 0 + 0 + cond (o && not c) 1 0

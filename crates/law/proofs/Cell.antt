@@ -1,5 +1,5 @@
 -- One cell in the midst of a submission, and what each kind of step does to it. Nothing here knows what a cell or a cover is.
-use Rattle.std.proofs.Common.{◌≡◌, ℕ, ◌+◌, ◌≤◌, Bool, true, false, cond, not, ◌&&◌, ◌||◌, refl, arith}
+use Rattle.std.proofs.Common.{◌≡◌, ℕ, ◌+◌, Bool, true, false, cond, not, ◌&&◌, ◌||◌, arith}
 
 -- d: to be cleared before the next step of the ledger; b: in the copy of the book; g: discarded in this list; v: read or
 -- written since; s: discarded, and settled since; p: drained by the steps to come; o: owes in the ledger; y: its byte

@@ -1,9 +1,8 @@
 -- What a list of steps has discarded, covered and settled, surface by surface.
-use Rattle.std.proofs.Common.{◌≡◌, ℕ, ◌+◌, ◌<◌, ◌≤◌, Bool, true, false, cond, not, ◌&&◌, ◌||◌, eqb, ltb, leb, ◌⊎◌, List, [], ◌∷◌, ◌++◌, map, sym, refl, ap, ◌∙◌, subst, ap₂, inl, inr, ⊎_elim, append_assoc, append-nil, arith}
+use Rattle.std.proofs.Common.{◌≡◌, ℕ, Bool, true, false, cond, not, ◌&&◌, ◌||◌, eqb, ◌⊎◌, List, [], ◌∷◌, ◌++◌, map, sym, refl, ap, ◌∙◌, subst, inl, inr, ⊎_elim, append_assoc, append-nil, arith}
 use Rattle.std.proofs.lemmas.Bool.Decides.{nat_tests}
 use Rattle.std.proofs.lemmas.Bool.{cases_Bool}
-use Rattle.law.specs.Pages.{Area, Surface, Announced, ListStep, OnBuffer, TextureRead, TextureWrite, ClearTexture, SettledClear, Discard, in_area, holds_any, uses_of, same_surface, without, discards_after, discards_from, covered_after, covered_from, may_discard, owed_by}
-use Rattle.law.specs.Recording.{unless_empty, read_steps}
+use Rattle.law.specs.Pages.{Surface, Announced, ListStep, OnBuffer, TextureRead, TextureWrite, ClearTexture, SettledClear, Discard, uses_of, same_surface, without, discards_after, discards_from, covered_after, covered_from, may_discard}
 
 -- whether a surface is among others
 abbrev pub has : Surface → List Surface → Bool

@@ -1,9 +1,9 @@
 -- What one call adds to a history: the invariant goes on, and each law goes on with it.
-use Rattle.std.proofs.Common.{◌≡◌, ℕ, ◌+◌, ◌≤◌, Bool, true, false, cond, not, ◌&&◌, ◌||◌, List, [], ◌∷◌, ◌++◌, sym, refl, ap, ◌∙◌, subst, ap₂, arith}
+use Rattle.std.proofs.Common.{◌≡◌, ℕ, ◌+◌, ◌≤◌, not, ◌&&◌, List, [], sym, refl, ap, ◌∙◌, subst, ap₂, arith}
 use Rattle.device.specs.Meaning.{Meaning}
 use Rattle.law.specs.Pages.{World}
-use Rattle.law.specs.Calls.{Call, Reply, Made, Done, Owed, Submitted, Declined, HandedBack, Outcome}
-use Rattle.law.specs.Ledger.{Cells, Marks, Ledger, Entry, Turn, fed_call, fed, submissions_of, turns_by, made_size, lost_cells, on_made, on_done, on_owed, began_by, overs_by, lost_by, ended_by, cleared_by, cleared_in, sums_in, sums_by, HoldsBy, Sound, Thrifty, counted_by, begins, overs, ended, count_all}
+use Rattle.law.specs.Calls.{Call, Reply, Made, Done, Owed, Submitted, Declined, HandedBack}
+use Rattle.law.specs.Ledger.{Cells, Marks, Ledger, Entry, fed, submissions_of, turns_by, made_size, lost_cells, on_done, on_owed, began_by, overs_by, lost_by, ended_by, cleared_by, cleared_in, sums_in, sums_by, HoldsBy, Sound, Thrifty, counted_by, begins, overs, ended, count_all}
 use Rattle.law.specs.Laws.{SumsRight, SoundBy, ThriftyBy, CountedBy}
 use Rattle.law.proofs.Invariant.{Inv}
 

@@ -1,24 +1,24 @@
 -- A list that may stand, cell by cell; and what its discards leave in the books.
-use Rattle.std.proofs.Common.{◌≡◌, ℕ, ◌+◌, ◌-◌, ◌<◌, ◌≤◌, Bool, true, false, cond, not, ◌&&◌, ◌||◌, eqb, ltb, leb, ◌⊎◌, List, [], ◌∷◌, ◌++◌, length, get_or, set, sym, refl, ap, ◌∙◌, subst, ap₂, inl, inr, ⊎_elim, arith}
+use Rattle.std.proofs.Common.{◌≡◌, ℕ, ◌+◌, ◌<◌, ◌≤◌, Bool, true, false, cond, not, ◌&&◌, ◌||◌, eqb, leb, List, [], ◌∷◌, ◌++◌, length, sym, refl, ap, ◌∙◌, subst, ap₂, ⊎_elim, arith}
 use Rattle.std.proofs.lemmas.Bool.Decides.{nat_tests}
-use Rattle.std.proofs.lemmas.Bool.{eq-eqb, ne_eqb, le-ltb, cases_eq, cases_lt}
+use Rattle.std.proofs.lemmas.Bool.{ne_eqb, cases_eq, cases_lt}
 use Rattle.texture.specs.Shapes.{Shape, layers_of}
 use Rattle.texture.specs.Cells.{mip_of, layer_of}
-use Rattle.texture.specs.Runs.{clears, pitch_fits}
+use Rattle.texture.specs.Runs.{pitch_fits}
 use Rattle.range_list.specs.Ranges.{inside}
 use Rattle.rules.specs.State.{Buffer, Texture, no_texture}
 use Rattle.rules.specs.Uses.{buffer_of, start_of, cover_end}
 use Rattle.rules.specs.declared.step.Step.{Step}
 use Rattle.rules.specs.declared.step.Step.TheVariants as step
-use Rattle.law.specs.Pages.{Area, Surface, ListStep, OnBuffer, TextureRead, TextureWrite, ClearTexture, SettledClear, Discard, buffer_count, texture_count, place_of, texture_in, in_area, uses_of, same_surface, without, discards_after, discards_from, covered_after, covered_from, may_discard}
+use Rattle.law.specs.Pages.{Area, Surface, ListStep, OnBuffer, TextureRead, TextureWrite, ClearTexture, SettledClear, Discard, buffer_count, texture_count, place_of, texture_in, in_area, uses_of, same_surface, without, discards_after, discards_from, covered_after, covered_from}
 use Rattle.law.specs.Uses.{with_book, discard_mip, discard_into, discard_all, commands_for}
-use Rattle.law.specs.Ledger.{Cells, Sizes, Each, Effect, Looks, Writes, slot_count, covers, buffer_effect}
+use Rattle.law.specs.Ledger.{Cells, Sizes, Each, slot_count, covers, buffer_effect}
 use Rattle.law.specs.Laws.{commanded}
 use Rattle.law.proofs.Commands.{paints_named}
-use Rattle.law.proofs.Moves.{goes, sees, settles, by, Work, gone_set, Stands, Formed}
+use Rattle.law.proofs.Moves.{goes, sees, settles, by, gone_set, Stands, Formed}
 use Rattle.law.proofs.Shelves.{book_at, AllSound, discard_book, discard_sound, discard_length}
-use Rattle.law.proofs.Works.{ValidRange, ValidArea, ValidSurface, Valid, AllValid, work_of, works_of, settled_paints}
-use Rattle.law.proofs.Shelving.{book_set, set_low, set_high, Shelved, Holds, held, set_at, shelve_texture}
+use Rattle.law.proofs.Works.{ValidSurface, Valid, AllValid, work_of, works_of, settled_paints}
+use Rattle.law.proofs.Shelving.{book_set, set_low, set_high, Shelved, set_at, shelve_texture}
 use Rattle.law.proofs.Discards.{has, discarded_after, discarded_from, discarded_more, settled_after, settled_from, settled_more, covered_more, has_discards, same_fields, parts, GoodStep, Good}
 
 -- the surface of a cell

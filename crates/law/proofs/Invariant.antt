@@ -1,20 +1,19 @@
 -- What ties a planner and its device to the ledger between two calls.
-use Rattle.std.proofs.Common.{◌≡◌, ℕ, zero, suc, ◌+◌, ◌-◌, ◌*◌, ◌/◌, ◌<◌, ◌≤◌, Bool, true, false, cond, not, ◌&&◌, ◌||◌, ◌⊎◌, List, [], ◌∷◌, ◌++◌, length, get_or, set, sym, refl, ap, ◌∙◌, subst, ap₂, inl, inr, ⊎_elim, arith, length-set, get_or-set_other, get_or-set_same}
+use Rattle.std.proofs.Common.{◌≡◌, ℕ, zero, suc, ◌+◌, ◌<◌, ◌≤◌, Bool, true, false, cond, List, [], ◌∷◌, ◌++◌, length, get_or, set, sym, refl, ap, ◌∙◌, subst, ⊎_elim, arith, length-set, get_or-set_other, get_or-set_same}
 use Rattle.std.proofs.lemmas.Bool.{eq-eqb, ne_eqb, cases_eq, cases_lt}
 use Rattle.texture.specs.Shapes.{Shape, layers_of, proper}
 use Rattle.texture.specs.Cells.{cells_of}
 use Rattle.texture.specs.Runs.{clears, pitch_fits}
 use Rattle.device.specs.Meaning.{Meaning}
-use Rattle.rules.specs.State.{Buffer, Texture, rounded_up}
-use Rattle.rules.specs.Uses.{buffer_of, start_of, end_of, cover_end}
+use Rattle.rules.specs.State.{rounded_up}
+use Rattle.rules.specs.Uses.{buffer_of, start_of, end_of}
 use Rattle.rules.specs.declared.step.Step.{Step}
-use Rattle.rules.specs.declared.step.Step.TheVariants as step
 use Rattle.rules.specs.declared.list_state.ListState.{ListState}
 use Rattle.rules.specs.declared.list_state.ListState.TheVariants.{Idle, Recording, InDebt, Closed, Broken}
 use Rattle.law.specs.Pages.{World, Page, Area, Surface, Announced, ListStep, OnBuffer, TextureRead, TextureWrite, ClearTexture, SettledClear, Discard, buffer_count, texture_count, list_count, buffer_at, texture_at, page_at, put_page, idle_page, discards_from, owed_by}
 use Rattle.law.specs.Recording.{in_debt}
 use Rattle.law.specs.Submitting.{shapes}
-use Rattle.law.specs.Ledger.{Cells, Sizes, Each, Marks, Ledger, slot_count, put, with_list}
+use Rattle.law.specs.Ledger.{Ledger, slot_count, put, with_list}
 use Rattle.law.proofs.Cell.{Ready}
 use Rattle.law.proofs.Moves.{AllReady}
 use Rattle.law.proofs.Shelving.{Shelved}

@@ -1,9 +1,9 @@
 -- Every choice of clears under which no read covers an owing cell ends at least as many owings as the planner clears
 -- cells: one submission.
 use Rattle.std.proofs.Common.{◌≡◌, ℕ, ◌+◌, ◌≤◌, Bool, true, false, cond, not, ◌&&◌, ◌||◌, List, [], ◌∷◌, refl, arith}
-use Rattle.law.specs.Ledger.{Cells, Bytes, nobody, Effect, Looks, Writes, Zeroes, Begins, Passes, Marks, clear, act, Sizes, count_all, Each, Deed, Turn, turn, turned, after_turns, added_up, Always, ended, Unowing, Sound}
+use Rattle.law.specs.Ledger.{Cells, Bytes, nobody, Effect, Looks, Writes, Zeroes, Begins, Passes, Marks, clear, Sizes, count_all, Each, turned, after_turns, added_up, Always, ended, Unowing, Sound}
 use Rattle.law.proofs.Sums.{sum_eq, sum_two, sum_six, sum_none}
-use Rattle.law.proofs.Moves.{leaves, takes, goes, sees, settles, by, Work, drained_set, kept_set, gone_set, settled_count, settled_counts, Stands, Formed, zip_by, zip_turns, drained_in}
+use Rattle.law.proofs.Moves.{leaves, takes, goes, sees, settles, by, Work, drained_set, kept_set, gone_set, settled_counts, Stands, Formed, zip_turns, drained_in}
 
 -- b: in the copy of the book; g: discarded in this list; v: covered since; s: settled since
 pub record Along (b g v s : Bool) : Type 0 where

@@ -1,32 +1,28 @@
 -- Calls on lists that record no step of their own: open, close, abandon, announce, settle and withdraw.
-use Rattle.std.proofs.Common.{◌≡◌, ℕ, ◌+◌, ◌-◌, ◌<◌, ◌≤◌, Bool, true, false, cond, not, ◌&&◌, ◌||◌, eqb, ltb, leb, ◌⊎◌, List, [], ◌∷◌, ◌++◌, map, length, set, Ok, Err, Result, sym, refl, ap, ◌∙◌, subst, ap₂, inl, inr, ⊎_elim, append-nil, arith}
+use Rattle.std.proofs.Common.{◌≡◌, ℕ, ◌<◌, ◌≤◌, Bool, true, false, cond, not, ◌&&◌, ◌||◌, eqb, ltb, leb, List, [], ◌∷◌, ◌++◌, map, Ok, Err, sym, refl, ap, ◌∙◌, subst, ap₂, ⊎_elim, append-nil, arith}
 use Rattle.std.proofs.lemmas.Bool.Decides.{nat_tests}
-use Rattle.std.proofs.lemmas.Bool.{cases_lt, cases_Bool, lt-ltb, le-ltb}
-use Rattle.fault.specs.declared.call_kind.CallKind.{CallKind}
+use Rattle.std.proofs.lemmas.Bool.{cases_lt, lt-ltb, le-ltb}
 use Rattle.fault.specs.declared.call_kind.CallKind.TheVariants as kind
 use Rattle.fault.specs.declared.refusal.Refusal.TheVariants as cause
-use Rattle.texture.specs.Shapes.{Shape, layers_of}
-use Rattle.texture.specs.Runs.{clears}
 use Rattle.device.specs.Meaning.{Meaning, Followed}
 use Rattle.rules.specs.Verdicts.{Verdict, tried, and_then, accepts}
 use Rattle.rules.specs.Lists.{allows, becomes}
 use Rattle.rules.specs.declared.list_state.ListState.{ListState}
 use Rattle.rules.specs.declared.list_state.ListState.TheVariants.{Idle, Recording, InDebt, Closed, Broken}
-use Rattle.rules.specs.declared.list_state.ListCall.{ListCall}
 use Rattle.rules.specs.declared.list_state.ListCall.TheVariants as asked
-use Rattle.law.specs.Pages.{World, Page, Area, Surface, Announced, ListStep, OnBuffer, TextureRead, TextureWrite, ClearTexture, SettledClear, Discard, buffer_count, list_count, texture_at, page_at, put_page, idle_page, holds_any, in_area, uses_of, same_surface, without, discards_after, discards_from, owed_by}
+use Rattle.law.specs.Pages.{World, Page, Area, Surface, Announced, ListStep, OnBuffer, TextureRead, TextureWrite, ClearTexture, SettledClear, Discard, list_count, texture_at, page_at, put_page, holds_any, uses_of, same_surface, without, discards_after, discards_from, owed_by}
 use Rattle.law.specs.Recording.{Debt, known_page, known_texture, area_causes, in_debt, debt_verdict, step_verdict, unless_empty, called_page, announced_page, indebted, read_steps, settled_steps, settled_page, spent_page, settle_causes, owes_uncleared, unclearable, broken_page}
 use Rattle.law.specs.Submitting.{shapes}
-use Rattle.law.specs.Calls.{Call, Open, Close, Abandon, Announce, Settle, Withdraw, Unknown, Reply, Made, Done, Owed, Submitted, Declined, HandedBack, done_or, owed_or, spent, settled, withdrawn, outcome, Outcome}
-use Rattle.law.specs.Ledger.{Marks, Ledger, Cells, with_list, on_done, on_owed, fed}
+use Rattle.law.specs.Calls.{Open, Close, Abandon, Announce, Settle, Withdraw, Unknown, done_or, owed_or, spent, settled, withdrawn, outcome}
+use Rattle.law.specs.Ledger.{Ledger, with_list, on_done, on_owed}
 use Rattle.law.specs.Laws.{entry_of}
 use Rattle.law.proofs.Ahead.{can_clear}
-use Rattle.law.proofs.Discards.{has, discarded_from, settled_from, has_discards, Once, once_without, Good, good_join, good_end, read_of, same_fields, Settling, settle_good}
+use Rattle.law.proofs.Discards.{has, settled_from, has_discards, Once, once_without, Good, good_join, good_end, read_of, same_fields, Settling, settle_good}
 use Rattle.law.proofs.Plans.{ledger_steps, ledger_join}
-use Rattle.law.proofs.Invariant.{live, AreaOk, SurfaceOk, StepOk, AllOk, ok_join, Lively, Waits, PageOk, Inv, put_here, paged_same, paged_list, paged_past, still}
-use Rattle.law.proofs.Entering.{remark, other, Plain, Unreported, Entered, plain_entered, done_alike, done_marks, done_sizes, owed_alike, owed_marks, owed_sizes}
-use Rattle.law.proofs.Verdicts.{NoneHolds, none_holds, both_ok, err_ok, cond_no, page_known, not_false, neither}
-use Rattle.law.proofs.Recorded.{page_broken, done_unreported, Passed, passed}
+use Rattle.law.proofs.Invariant.{live, AreaOk, SurfaceOk, StepOk, AllOk, ok_join, PageOk, Inv, put_here, paged_same, paged_list, paged_past, still}
+use Rattle.law.proofs.Entering.{Unreported, Entered, plain_entered, done_alike, done_marks, done_sizes, owed_alike, owed_marks, owed_sizes}
+use Rattle.law.proofs.Verdicts.{none_holds, both_ok, page_known, neither}
+use Rattle.law.proofs.Recorded.{page_broken, done_unreported, passed}
 use Rattle.law.proofs.Steps.{area_ok}
 
 differ : (b : Bool) → b ≡ false → b ≡ true → ◌≡◌ {A = ℕ} 0 1

@@ -1,30 +1,22 @@
 -- Making and destroying: a slot's cells begin to owe, or go.
-use Rattle.std.proofs.Common.{◌≡◌, ℕ, ◌+◌, ◌-◌, ◌*◌, ◌/◌, ◌<◌, ◌≤◌, Bool, true, false, cond, not, ◌&&◌, ◌||◌, eqb, ltb, leb, ◌⊎◌, List, [], ◌∷◌, ◌++◌, length, get_or, set, replicate, Some, None, Ok, Err, Option, Result, sym, refl, ap, ◌∙◌, subst, ap₂, inl, inr, ⊎_elim, arith, length-set, get_or-set_other, get_or-set_same}
-use lib.ListN.{length-replicate}
+use Rattle.std.proofs.Common.{◌≡◌, ℕ, ◌+◌, ◌<◌, Bool, true, false, cond, ◌||◌, eqb, ltb, length, get_or, set, sym, refl, ap, ◌∙◌, subst, ⊎_elim, arith, length-set, get_or-set_other, get_or-set_same}
 use Rattle.std.proofs.lemmas.Bool.Decides.{nat_tests}
-use Rattle.std.proofs.lemmas.Bool.{eq-eqb, ne_eqb, eqb-true, eqb-false, lt-ltb, cases_eq, cases_lt, cases_Bool}
-use Rattle.fault.specs.declared.refusal.Refusal.{Refusal}
-use Rattle.fault.specs.declared.refusal.Refusal.TheVariants.{BadDescription}
-use Rattle.texture.specs.Shapes.{Shape, layers_of, proper}
-use Rattle.texture.specs.Cells.{cells_of, mip_of, layer_of}
-use Rattle.texture.specs.Numbered.{described, named, if_proper, dimension_of, format_of, mode_of}
-use Rattle.texture.proofs.Tiles.{lands}
-use Rattle.device.specs.Meaning.{Meaning, Followed}
+use Rattle.std.proofs.lemmas.Bool.{eqb-true, eqb-false, cases_eq}
+use Rattle.texture.specs.Cells.{mip_of, layer_of}
+use Rattle.device.specs.Meaning.{Meaning}
 use Rattle.range_list.specs.Ranges.{inside, member, whole, Sound}
 use Rattle.range_list.proofs.Laws.{member_whole, sound_whole}
-use Rattle.rules.specs.State.{Buffer, Texture, no_buffer, no_texture, rounded_up}
-use Rattle.rules.specs.Making.{fresh_buffer, destroyed_buffer}
-use Rattle.rules.specs.Verdicts.{Verdict, tried}
-use Rattle.law.specs.Pages.{World, Page, buffer_count, texture_count, buffer_at, texture_at, texture_in, place_of, page_at, with_buffers, with_textures}
+use Rattle.rules.specs.State.{Buffer, no_buffer, rounded_up}
+use Rattle.rules.specs.Making.{fresh_buffer}
+use Rattle.law.specs.Pages.{World, buffer_count, buffer_at, texture_in, page_at, with_buffers}
 use Rattle.law.specs.Submitting.{shapes}
-use Rattle.law.specs.Calls.{fresh_texture, destroyed_texture}
-use Rattle.law.specs.Ledger.{Cells, Marks, Ledger, Sizes, Each, slot_count, put, made_marks, buffer_in, texture_into, gone_from}
+use Rattle.law.specs.Ledger.{Ledger, put, made_marks, buffer_in}
 use Rattle.law.proofs.Cell.{Ready}
 use Rattle.law.proofs.Moves.{AllReady}
-use Rattle.law.proofs.Shelves.{book_at, AllSound, fresh_book, fresh_sound}
-use Rattle.law.proofs.Shelving.{book_set, set_low, set_high, Shelved, set_keeps}
+use Rattle.law.proofs.Shelves.{book_at}
+use Rattle.law.proofs.Shelving.{set_low, Shelved}
 use Rattle.law.proofs.Plans.{books}
-use Rattle.law.proofs.Invariant.{Grows, page_grows, Known, PageOk, Inv, put_here, put_other}
+use Rattle.law.proofs.Invariant.{Grows, page_grows, Known, Inv, put_here, put_other}
 
 -- one cell, of the slot that is made or of another
 made_ready : (e b o : Bool) (y x : ℕ) → (e ≡ true → b ≡ true) → (e ≡ false → Ready b o y x) → Ready b (e || o) (cond e 0 y) x

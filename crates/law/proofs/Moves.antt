@@ -1,10 +1,9 @@
 -- The planner's work on a list of steps, by the cells that each step covers, and against the ledger under the planner's
 -- choice of clears. Nothing here knows of ranges, mips or commands.
-use Rattle.std.proofs.Common.{◌≡◌, ℕ, ◌+◌, Bool, true, false, cond, not, ◌&&◌, ◌||◌, List, [], ◌∷◌, ◌++◌, refl, ap, ◌∙◌, ap₂, arith}
-use Rattle.law.specs.Ledger.{Cells, Bytes, nobody, Effect, Looks, Writes, Zeroes, Begins, Passes, Marks, clear, act, Sizes, sum_all, count_all, Each, Deed, Turn, turn, turned, after_turns, says_of, sums_over, added_up, Always, ended, Unowing, Sound, Thrifty}
+use Rattle.std.proofs.Common.{◌≡◌, ℕ, ◌+◌, Bool, true, false, cond, not, ◌&&◌, ◌||◌, List, [], ◌∷◌, ◌++◌, arith}
+use Rattle.law.specs.Ledger.{Cells, Bytes, nobody, Effect, Looks, Writes, Zeroes, Begins, Passes, Marks, Sizes, count_all, Each, Deed, Turn, turn, says_of}
 use Rattle.law.specs.Laws.{either}
-use Rattle.law.proofs.Sums.{sum_eq, sum_two, sum_none}
-use Rattle.law.proofs.Cell.{Cell, Ready, cell_start, cell_done, cell_none, cell_look, cell_write, cell_zero, cell_begin, cell_pass, pass_once, all_owe, look_quiet, look_same}
+use Rattle.law.proofs.Cell.{Ready}
 
 -- at one cell that a step covers or not: what is left in the book, what a read takes out of it, what stands discarded,
 -- covered and settled after the step, and the device's byte

@@ -1,26 +1,24 @@
 -- A whole submission of a planner: its clears, its steps and its report, against the ledger's turns.
-use Rattle.std.proofs.Common.{◌≡◌, ℕ, ◌+◌, ◌<◌, ◌≤◌, Bool, true, false, cond, not, ◌&&◌, ◌||◌, List, [], ◌∷◌, ◌++◌, length, sym, refl, ap, ◌∙◌, subst, ap₂, arith}
+use Rattle.std.proofs.Common.{◌≡◌, ℕ, ◌+◌, ◌<◌, ◌≤◌, Bool, true, false, cond, not, ◌&&◌, ◌||◌, List, [], ◌∷◌, ◌++◌, sym, refl, ap, ◌∙◌, subst, arith}
 use Rattle.texture.specs.Shapes.{Shape}
 use Rattle.texture.specs.Runs.{pitch_fits}
 use Rattle.device.specs.declared.command.Command.{Command}
 use Rattle.device.specs.Commands.{painted}
 use Rattle.device.specs.Meaning.{ran}
-use Rattle.rules.specs.State.{Buffer, Texture}
-use Rattle.rules.specs.Planning.{drain_steps, planned, clears_of}
-use Rattle.rules.specs.declared.step.Step.{Step}
+use Rattle.rules.specs.Planning.{drain_steps}
 use Rattle.rules.specs.declared.step.Step.TheVariants as step
-use Rattle.law.specs.Pages.{World, Area, Surface, ListStep, OnBuffer, TextureRead, TextureWrite, ClearTexture, SettledClear, Discard, buffer_count, discards_from}
-use Rattle.law.specs.Uses.{commands_for, commands_for_all, sums_for, sums_for_all, on_buffers, drained_by_all, needed_by_all, discard_all, cells_named, settled_commands}
-use Rattle.law.specs.Submitting.{shapes, ahead, all_commands, told_of}
-use Rattle.law.specs.Ledger.{Cells, Bytes, nobody, Sizes, Each, Effect, Looks, Writes, Zeroes, Begins, Passes, Marks, Deed, deed_of, Turn, turn, turns, after_turns, sums_over, added_up, Always, ended, Sound, Thrifty, count_all, slot_count}
+use Rattle.law.specs.Pages.{World, ListStep, OnBuffer, TextureRead, TextureWrite, ClearTexture, SettledClear, Discard, discards_from}
+use Rattle.law.specs.Uses.{commands_for, commands_for_all, sums_for, sums_for_all, on_buffers, drained_by_all, discard_all, cells_named, settled_commands}
+use Rattle.law.specs.Submitting.{shapes, ahead, all_commands}
+use Rattle.law.specs.Ledger.{Cells, Bytes, nobody, Sizes, Marks, deed_of, Turn, turn, turns, after_turns, sums_over, added_up, Always, ended, Sound, Thrifty, count_all, slot_count}
 use Rattle.law.specs.Laws.{commanded, either, choice_from, choice}
 use Rattle.law.proofs.Sums.{sum_eq}
 use Rattle.law.proofs.Cell.{Ready}
 use Rattle.law.proofs.Commands.{Paints, paints_named, paints_device, paints_cells}
-use Rattle.law.proofs.Moves.{Work, drained_set, kept_set, gone_set, device_after, said_all, plan_turns, settled_counts, Formed, AllFaithful, AllReady, zip_turns}
-use Rattle.law.proofs.Submission.{Mid, Right, right, started}
+use Rattle.law.proofs.Moves.{Work, drained_set, kept_set, gone_set, device_after, said_all, plan_turns, settled_counts, Formed, AllReady, zip_turns}
+use Rattle.law.proofs.Submission.{Right, right, started}
 use Rattle.law.proofs.Least.{least_list}
-use Rattle.law.proofs.Works.{Valid, AllValid, work_of, works_of, all_faithful, settled_paints}
+use Rattle.law.proofs.Works.{AllValid, works_of, all_faithful, settled_paints}
 use Rattle.law.proofs.Shelving.{book_set, Shelved, book_after, shelved_after}
 use Rattle.law.proofs.Ahead.{Clearable, ahead_paints}
 use Rattle.law.proofs.Discards.{Good}

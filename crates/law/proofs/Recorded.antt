@@ -1,22 +1,21 @@
 -- Calls that record a step: the list and the ledger's list take it together, or the list breaks.
-use Rattle.std.proofs.Common.{◌≡◌, ℕ, ◌+◌, ◌<◌, ◌≤◌, Bool, true, false, cond, not, ◌&&◌, ◌||◌, eqb, ltb, leb, List, [], ◌∷◌, ◌++◌, length, Ok, Err, Result, sym, refl, ap, ◌∙◌, subst, ap₂, append-nil, arith}
-use Rattle.std.proofs.lemmas.Bool.{ltb-true}
+use Rattle.std.proofs.Common.{◌≡◌, ℕ, ◌<◌, Bool, true, false, List, [], ◌∷◌, ◌++◌, Ok, Err, sym, refl, ap, ◌∙◌, subst, ap₂, append-nil, arith}
 use Rattle.fault.specs.declared.call_kind.CallKind.{CallKind}
 use Rattle.fault.specs.declared.refusal.Refusal.{Refusal}
 use Rattle.device.specs.Meaning.{Meaning}
-use Rattle.rules.specs.Verdicts.{Verdict, tried, and_then}
+use Rattle.rules.specs.Verdicts.{Verdict, tried}
 use Rattle.rules.specs.Lists.{allows}
 use Rattle.rules.specs.Steps.{given_up}
 use Rattle.rules.specs.declared.list_state.ListState.{ListState}
 use Rattle.rules.specs.declared.list_state.ListState.TheVariants.{Idle, Recording, InDebt, Closed, Broken}
 use Rattle.rules.specs.declared.list_state.ListCall.TheVariants.{Step as Record}
-use Rattle.law.specs.Pages.{World, Page, Area, Surface, Announced, ListStep, OnBuffer, TextureRead, TextureWrite, ClearTexture, SettledClear, Discard, list_count, page_at, put_page, discards_from, discards_after, may_discard, covered_from, uses_of}
+use Rattle.law.specs.Pages.{World, Page, Surface, ListStep, list_count, page_at, put_page, discards_from, discards_after}
 use Rattle.law.specs.Recording.{in_debt, known_page, step_verdict, stepped_page, with_steps, broken_page, unless_empty}
-use Rattle.law.specs.Calls.{Call, Reply, Made, Done, Owed, Submitted, Declined, HandedBack, done_or}
-use Rattle.law.specs.Ledger.{Ledger, joined_by, with_list, on_done}
-use Rattle.law.proofs.Discards.{has, discarded_from, settled_from, settled_after, settled_more, discards_more, has_discards, exclusive, Once, once_without, once_last, GoodStep, Good, good_join, good_end}
+use Rattle.law.specs.Calls.{done_or}
+use Rattle.law.specs.Ledger.{Ledger, joined_by, on_done}
+use Rattle.law.proofs.Discards.{settled_after, settled_more, discards_more, Once, GoodStep, Good, good_join, good_end}
 use Rattle.law.proofs.Plans.{ledger_steps, ledger_join}
-use Rattle.law.proofs.Invariant.{live, StepOk, AllOk, ok_join, Lively, Waits, PageOk, Inv, put_here, put_other, paged_same, paged_list}
+use Rattle.law.proofs.Invariant.{live, StepOk, AllOk, ok_join, PageOk, Inv, put_here, paged_same, paged_list}
 use Rattle.law.proofs.Entering.{Unreported}
 use Rattle.law.proofs.Verdicts.{both_ok, page_known, records}
 

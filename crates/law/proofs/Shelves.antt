@@ -1,10 +1,10 @@
 -- A texture's book, mip by mip, as the set of layers that owe: what a use takes out of it, what is cleared for a read, and
 -- what a discard puts in.
-use Rattle.std.proofs.Common.{◌≡◌, ℕ, zero, suc, ◌+◌, ◌-◌, ◌<◌, ◌≤◌, Bool, true, false, cond, not, ◌&&◌, ◌||◌, eqb, ltb, leb, ◌⊎◌, List, [], ◌∷◌, ◌++◌, map, length, replicate, sym, refl, ap, ◌∙◌, subst, ap₂, inl, inr, arith}
+use Rattle.std.proofs.Common.{◌≡◌, ℕ, zero, suc, ◌+◌, ◌-◌, ◌<◌, ◌≤◌, Bool, true, false, cond, not, ◌&&◌, ◌||◌, eqb, ltb, leb, ◌⊎◌, List, [], ◌∷◌, length, replicate, sym, refl, ap, ◌∙◌, subst, inl, inr, arith}
 use Rattle.std.proofs.lemmas.Bool.Decides.{nat_tests}
 use Rattle.std.proofs.lemmas.Bool.{lt-ltb, cases_lt}
 use Rattle.std.specs.List.{flat_map}
-use Rattle.texture.specs.Shapes.{Shape, layers_of}
+use Rattle.texture.specs.Shapes.{Shape}
 use Rattle.texture.specs.Cells.{mip_of, layer_of}
 use Rattle.device.specs.declared.command.Command.{Command}
 use Rattle.range_list.specs.Ranges.{inside, member, pieces, drained, added, discarded, whole, Sound, SoundFrom}
@@ -12,7 +12,7 @@ use Rattle.range_list.proofs.Laws.{member_whole, member_drained, member_pieces, 
 use Rattle.rules.specs.State.{Book}
 use Rattle.law.specs.Ledger.{Cells, Sizes, Each}
 use Rattle.law.specs.Pages.{Area, Surface, in_area}
-use Rattle.law.specs.Uses.{up_from, clear_surface, clear_layers, clear_mips, drain_mips, discard_mip, owes_any}
+use Rattle.law.specs.Uses.{clear_surface, clear_layers, clear_mips, drain_mips, discard_mip, owes_any}
 use Rattle.law.proofs.Commands.{Paints, paints_as, paints_none, paints_both}
 use Rattle.law.proofs.Surfaces.{surface, paints_up}
 

@@ -1,23 +1,23 @@
 -- The books of all resources as one set of cells, and what the steps of a list take out of it.
-use Rattle.std.proofs.Common.{◌≡◌, ℕ, ◌+◌, ◌-◌, ◌<◌, ◌≤◌, Bool, true, false, cond, not, ◌&&◌, ◌||◌, eqb, ltb, leb, ◌⊎◌, List, [], ◌∷◌, ◌++◌, map, length, get_or, set, sym, refl, ap, ◌∙◌, subst, ap₂, inl, inr, ⊎_elim, arith, length-set, get_or-set_other, get_or-set_same}
+use Rattle.std.proofs.Common.{◌≡◌, ℕ, ◌<◌, ◌≤◌, Bool, true, false, cond, not, ◌&&◌, ◌||◌, eqb, ltb, List, [], ◌∷◌, length, get_or, set, sym, refl, ap, ◌∙◌, subst, ap₂, ⊎_elim, arith, length-set, get_or-set_other, get_or-set_same}
 use Rattle.std.proofs.lemmas.Bool.Decides.{nat_tests}
 use Rattle.std.proofs.lemmas.Bool.{lt-ltb, le-ltb, eq-eqb, ne_eqb, cases_eq, cases_lt}
 use Rattle.texture.specs.Shapes.{Shape, layers_of}
 use Rattle.texture.specs.Cells.{mip_of, layer_of}
-use Rattle.range_list.specs.Ranges.{inside, member, drained, Sound}
+use Rattle.range_list.specs.Ranges.{inside, member, Sound}
 use Rattle.range_list.proofs.Laws.{member_drained, sound_drained}
-use Rattle.rules.specs.State.{Book, Buffer, Texture, no_buffer, no_texture}
+use Rattle.rules.specs.State.{Buffer, Texture, no_buffer, no_texture}
 use Rattle.rules.specs.Uses.{buffer_of, start_of, cover_end}
 use Rattle.rules.specs.Planning.{drain_step, drain_steps, drained_buffer}
 use Rattle.rules.specs.declared.step.Step.{Step}
 use Rattle.rules.specs.declared.step.Step.TheVariants as step
-use Rattle.law.specs.Pages.{Area, Surface, ListStep, OnBuffer, TextureRead, TextureWrite, ClearTexture, SettledClear, Discard, buffer_count, texture_count, place_of, texture_in, in_area}
+use Rattle.law.specs.Pages.{Area, ListStep, OnBuffer, TextureRead, TextureWrite, ClearTexture, SettledClear, Discard, buffer_count, texture_count, place_of, texture_in, in_area}
 use Rattle.law.specs.Uses.{drain_mips, with_book, drain_texture, drained_by, drained_by_all, on_buffers}
 use Rattle.law.specs.Submitting.{buffers_after}
-use Rattle.law.specs.Ledger.{Cells, Sizes, Effect, Looks, Writes, slot_count, covers, effect_of, buffer_effect}
-use Rattle.law.proofs.Moves.{leaves, takes, by, Work, drained_set, kept_set, gone_set}
+use Rattle.law.specs.Ledger.{Cells, Sizes, slot_count, buffer_effect}
+use Rattle.law.proofs.Moves.{leaves, takes, by, Work, drained_set, kept_set}
 use Rattle.law.proofs.Shelves.{book_at, AllSound, drain_book, drain_sound, drain_length}
-use Rattle.law.proofs.Works.{ValidRange, ValidArea, Valid, AllValid, work_of, works_of}
+use Rattle.law.proofs.Works.{Valid, AllValid, work_of, works_of}
 
 -- the cells that the books hold
 abbrev pub book_set : (ℕ → Shape) → List Buffer → List Texture → Cells

@@ -1,29 +1,25 @@
 -- Each call that records a step: what it adds to its list, and that the laws go on.
-use Rattle.std.proofs.Common.{◌≡◌, ℕ, ◌+◌, ◌-◌, ◌^◌, ◌<◌, ◌≤◌, Bool, true, false, cond, not, ◌&&◌, ◌||◌, eqb, ltb, leb, List, [], ◌∷◌, ◌++◌, length, Some, None, Ok, Err, Option, Result, sym, refl, ap, ◌∙◌, subst, ap₂, arith}
+use Rattle.std.proofs.Common.{◌≡◌, ℕ, ◌+◌, ◌<◌, ◌≤◌, Bool, true, false, ◌&&◌, ltb, List, [], ◌∷◌, length, Some, None, Ok, Option, refl, ap, ◌∙◌, arith}
 use Rattle.std.proofs.lemmas.Bool.{ltb-true}
 use Rattle.fault.specs.declared.call_kind.CallKind.TheVariants as kind
 use Rattle.texture.specs.Shapes.{Shape, layers_of}
-use Rattle.texture.specs.Runs.{clears}
 use Rattle.device.specs.Meaning.{Meaning, Followed}
-use Rattle.rules.specs.State.{Texture}
 use Rattle.rules.specs.Steps.{read_causes, write_causes, clear_causes, clear_size}
-use Rattle.rules.specs.Verdicts.{tried}
 use Rattle.rules.specs.declared.step.Step.{Step}
 use Rattle.rules.specs.declared.step.Step.TheVariants as step
 use Rattle.rules.specs.declared.list_state.ListState.TheVariants.{Recording}
-use Rattle.law.specs.Pages.{World, Page, Area, Surface, ListStep, OnBuffer, TextureRead, TextureWrite, ClearTexture, SettledClear, Discard, buffer_count, list_count, buffer_at, texture_at, page_at, holds_any, discards_from, may_discard, uses_of}
-use Rattle.law.specs.Recording.{known_buffer, known_texture, area_causes, texture_write_causes, discard_causes, clear_texture_causes, cleared_area, end_from, past_end, unclearable, step_verdict, unless_empty, no_room, as_many, lacks_aspect}
+use Rattle.law.specs.Pages.{World, Area, Surface, ListStep, OnBuffer, TextureWrite, ClearTexture, Discard, list_count, buffer_at, texture_at, page_at, holds_any, discards_from, may_discard}
+use Rattle.law.specs.Recording.{known_buffer, known_texture, area_causes, texture_write_causes, discard_causes, clear_texture_causes, cleared_area, end_from, past_end, step_verdict, unless_empty}
 use Rattle.law.specs.Submitting.{shapes}
-use Rattle.law.specs.Calls.{Call, BufferRead, BufferWrite, ClearBuffer, WriteTexture, DiscardSurface, Clear, done_or, outcome}
-use Rattle.law.specs.Ledger.{Marks, Ledger, Cells, joined_by, fed}
+use Rattle.law.specs.Calls.{BufferRead, BufferWrite, ClearBuffer, WriteTexture, DiscardSurface, Clear, done_or, outcome}
+use Rattle.law.specs.Ledger.{Ledger, joined_by}
 use Rattle.law.specs.Laws.{entry_of}
 use Rattle.law.proofs.Ahead.{can_clear}
-use Rattle.law.proofs.Discards.{has, discarded_from, settled_from, has_discards, exclusive, Once, once_without, once_last, GoodStep, Good, good_end}
-use Rattle.law.proofs.Plans.{ledger_steps}
-use Rattle.law.proofs.Invariant.{RangeOk, AreaOk, SurfaceOk, StepOk, Inv, still}
-use Rattle.law.proofs.Entering.{remark, other, Plain, Unreported, Entered, plain_entered, done_alike, done_marks, done_sizes}
+use Rattle.law.proofs.Discards.{has, discarded_from, has_discards, exclusive, once_without, once_last, good_end}
+use Rattle.law.proofs.Invariant.{RangeOk, AreaOk, Inv, still}
+use Rattle.law.proofs.Entering.{Entered, plain_entered, done_alike, done_marks, done_sizes}
 use Rattle.law.proofs.Verdicts.{NoneHolds, none_holds, buffer_known, texture_known, at_most, below, neither, not_false}
-use Rattle.law.proofs.Recorded.{Adds, recorded_inv, done_unreported, Passed, passed, adds_one, adds_unless}
+use Rattle.law.proofs.Recorded.{Adds, recorded_inv, done_unreported, passed, adds_one, adds_unless}
 
 -- the ledger's own steps are the planner's where both know the same of a resource
 adds_as : (w : World) (l : Ledger) (k : ℕ) (more mine : List ListStep) → mine ≡ more → Adds w l k more more → Adds w l k more mine

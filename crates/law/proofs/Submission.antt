@@ -1,10 +1,10 @@
 -- One submission over all cells: the planner and the device against the ledger under the planner's choice.
-use Rattle.std.proofs.Common.{◌≡◌, ℕ, ◌+◌, Bool, true, false, cond, not, ◌&&◌, ◌||◌, List, [], ◌∷◌, ◌++◌, sym, refl, ap, ◌∙◌, subst, ap₂, arith}
-use Rattle.law.specs.Ledger.{Cells, Bytes, nobody, Effect, Looks, Writes, Zeroes, Begins, Passes, Marks, clear, act, Sizes, sum_all, count_all, Each, Deed, Turn, turn, turned, after_turns, says_of, sums_over, added_up, Always, ended, Unowing, Sound, Thrifty}
+use Rattle.std.proofs.Common.{◌≡◌, ℕ, ◌+◌, Bool, true, cond, ◌&&◌, ◌||◌, List, [], ◌∷◌, ◌++◌, sym, refl, ap, ◌∙◌, subst, ap₂, arith}
+use Rattle.law.specs.Ledger.{Cells, Bytes, nobody, Effect, Looks, Writes, Zeroes, Begins, Passes, Marks, Sizes, count_all, Each, turned, after_turns, says_of, sums_over, added_up, Always, ended, Sound, Thrifty}
 use Rattle.law.specs.Laws.{either}
 use Rattle.law.proofs.Sums.{sum_eq, sum_two, sum_none}
-use Rattle.law.proofs.Cell.{Cell, Ready, cell_start, cell_done, cell_none, cell_look, cell_write, cell_zero, cell_begin, cell_pass, pass_once, all_owe, look_quiet, look_same}
-use Rattle.law.proofs.Moves.{leaves, takes, goes, sees, settles, puts, by, Work, drained_set, kept_set, gone_set, device_after, said_all, plan_turns, settled_count, settled_counts, Stands, Formed, Faithful, AllFaithful, AllReady, drained_in}
+use Rattle.law.proofs.Cell.{Cell, cell_start, cell_done, cell_none, cell_look, cell_write, cell_zero, cell_begin, cell_pass, pass_once, all_owe, look_quiet, look_same}
+use Rattle.law.proofs.Moves.{leaves, goes, sees, settles, by, Work, drained_set, kept_set, gone_set, device_after, said_all, plan_turns, settled_counts, Stands, Formed, Faithful, AllFaithful, AllReady, drained_in}
 
 -- the state in the midst of a list: to be cleared before the ledger's next step, the copy of the book, discarded,
 -- covered, settled; the steps to come; the device and the ledger

@@ -1,6 +1,6 @@
 -- Sums over the numbers below n, and over all cells, compared cell by cell.
-use Rattle.std.proofs.Common.{◌≡◌, ℕ, zero, suc, ◌+◌, ◌<◌, ◌≤◌, Bool, true, false, cond, ◌&&◌, refl, ◌∙◌, arith}
-use Rattle.law.specs.Ledger.{Sizes, Cells, Each, sumBelow, sum_all, count_all, slot_count}
+use Rattle.std.proofs.Common.{◌≡◌, ℕ, zero, suc, ◌+◌, ◌<◌, ◌≤◌, refl, ◌∙◌, arith}
+use Rattle.law.specs.Ledger.{Sizes, Each, sumBelow, sum_all, slot_count}
 
 pub one_eq : (n : ℕ) (f g : ℕ → ℕ) → ((i : ℕ) → i < n → f i ≡ g i) → sumBelow n f ≡ sumBelow n g
 unfolding sumBelow

@@ -1,15 +1,15 @@
 -- What reads sum: the bytes of their own ranges, wherever those lie among all cells.
-use Rattle.std.proofs.Common.{◌≡◌, ℕ, zero, suc, ◌+◌, ◌-◌, ◌*◌, ◌<◌, ◌≤◌, Bool, true, false, cond, not, ◌&&◌, ◌||◌, eqb, ltb, leb, List, [], ◌∷◌, ◌++◌, sym, refl, ap, ◌∙◌, subst, ap₂, suc-mul, add-mul, one-mul, zero-mul, arith}
+use Rattle.std.proofs.Common.{◌≡◌, ℕ, zero, suc, ◌+◌, ◌-◌, ◌*◌, ◌<◌, ◌≤◌, Bool, true, false, cond, ◌&&◌, eqb, sym, refl, ap, ◌∙◌, suc-mul, add-mul, one-mul, zero-mul, arith}
 use Rattle.std.proofs.lemmas.Bool.Decides.{nat_tests}
 use Rattle.texture.specs.Shapes.{Shape, layers_of}
-use Rattle.texture.specs.Cells.{surface_first, surface_cells, cells_of, mip_of, layer_of, mip_first}
+use Rattle.texture.specs.Cells.{surface_first, surface_cells, cells_of, mip_of, layer_of}
 use Rattle.texture.proofs.Tiles.{surface_in_cells}
 use Rattle.device.specs.Meaning.{summed}
 use Rattle.range_list.specs.Ranges.{inside}
 use Rattle.law.specs.Ledger.{Bytes, Sizes, sumBelow, sum_all, slot_count}
 use Rattle.law.specs.Pages.{Area, in_area}
 use Rattle.law.specs.Uses.{up_from, sum_mips}
-use Rattle.law.proofs.Sums.{one_eq, one_two, one_none, sum_eq}
+use Rattle.law.proofs.Sums.{one_eq, one_two, one_none}
 use Rattle.law.proofs.Commands.{range_sum, slot_sum}
 use Rattle.law.proofs.Surfaces.{Textured, surface_cells_lem}
 

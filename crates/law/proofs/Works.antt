@@ -1,8 +1,7 @@
 -- Each step as the planner works it: the device does what the step does to its cells, and a read sums its own range.
-use Rattle.std.proofs.Common.{◌≡◌, ℕ, ◌+◌, ◌-◌, ◌<◌, ◌≤◌, Bool, true, false, cond, not, ◌&&◌, ◌||◌, eqb, ltb, leb, List, [], ◌∷◌, ◌++◌, sym, refl, ap, ◌∙◌, arith}
+use Rattle.std.proofs.Common.{◌≡◌, ℕ, ◌+◌, ◌-◌, ◌<◌, ◌≤◌, Bool, true, false, cond, ◌&&◌, eqb, ltb, leb, List, [], ◌∷◌, sym, refl, ap, ◌∙◌, arith}
 use Rattle.std.proofs.lemmas.Bool.Decides.{nat_tests}
 use Rattle.texture.specs.Shapes.{Shape, layers_of}
-use Rattle.texture.specs.Cells.{mip_of, layer_of}
 use Rattle.texture.specs.Runs.{clears, pitch_fits}
 use Rattle.device.specs.Meaning.{ran}
 use Rattle.range_list.specs.Ranges.{inside}
@@ -10,13 +9,13 @@ use Rattle.rules.specs.Uses.{buffer_of, start_of, end_of, cover_end}
 use Rattle.rules.specs.declared.step.Step.{Step}
 use Rattle.rules.specs.declared.step.Step.TheVariants as step
 use Rattle.law.specs.Pages.{Area, Surface, ListStep, OnBuffer, TextureRead, TextureWrite, ClearTexture, SettledClear, Discard, buffer_count}
-use Rattle.law.specs.Uses.{commands_for, commands_for_all, sums_for, sums_for_all, clear_surface, fill_surface}
-use Rattle.law.specs.Ledger.{Cells, Bytes, Sizes, Each, Effect, Passes, Deed, deed_of, covers, own_range, slot_count}
+use Rattle.law.specs.Uses.{commands_for, sums_for, clear_surface, fill_surface}
+use Rattle.law.specs.Ledger.{Sizes, Passes, Deed, deed_of, covers}
 use Rattle.law.specs.Laws.{commanded}
 use Rattle.law.proofs.Commands.{Paints, paints_device, paints_named}
-use Rattle.law.proofs.Surfaces.{Textured, surface, clear_surface_lem, fill_surface_lem, paints_area}
+use Rattle.law.proofs.Surfaces.{Textured, clear_surface_lem, fill_surface_lem, paints_area}
 use Rattle.law.proofs.Totals.{buffer_sum, area_sum}
-use Rattle.law.proofs.Moves.{Work, Faithful, AllFaithful, puts}
+use Rattle.law.proofs.Moves.{Work, Faithful, AllFaithful}
 
 -- a step that stays within what it names
 pub record ValidArea (z : Sizes) (sh : ℕ → Shape) (n : ℕ) (a : Area) : Type 0 where

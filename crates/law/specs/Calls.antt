@@ -1,5 +1,5 @@
 -- Each call of a planner as one function of what was: its reply, the state and the commands after it.
-use Rattle.std.specs.Prelude.{ℕ, ◌+◌, Bool, true, false, cond, not, ◌&&◌, List, [], ◌∷◌, map, length, replicate, Ok, Err, Option, Result, nat_le, nat_lt, slice_set}
+use Rattle.std.specs.Prelude.{ℕ, ◌+◌, true, false, cond, not, List, [], ◌∷◌, length, replicate, Ok, Err, Option, Result, nat_le, nat_lt, slice_set}
 use Rattle.fault.specs.declared.Fault.{Fault}
 use Rattle.fault.specs.declared.call_kind.CallKind.{CallKind}
 use Rattle.fault.specs.declared.call_kind.CallKind.TheVariants as kind
@@ -12,7 +12,7 @@ use Rattle.texture.specs.Numbered.{described}
 use Rattle.device.specs.declared.command.Command.{Command}
 use Rattle.device.specs.Meaning.{Meaning}
 use Rattle.range_list.specs.Ranges.{whole}
-use Rattle.rules.specs.State.{Buffer, Texture, rounded_up}
+use Rattle.rules.specs.State.{Texture, rounded_up}
 use Rattle.rules.specs.Verdicts.{Verdict, tried, and_then, accepts}
 use Rattle.rules.specs.Lists.{allows}
 use Rattle.rules.specs.Making.{fresh_buffer, destroyed_buffer}
@@ -20,7 +20,7 @@ use Rattle.rules.specs.Steps.{read_causes, write_causes, clear_causes, clear_siz
 use Rattle.rules.specs.declared.step.Step.TheVariants as step
 use Rattle.rules.specs.declared.list_state.ListCall.{ListCall}
 use Rattle.rules.specs.declared.list_state.ListCall.TheVariants as asked
-use Rattle.law.specs.Pages.{World, Page, Area, Surface, Announced, ListStep, OnBuffer, TextureRead, TextureWrite, ClearTexture, SettledClear, Discard, buffer_count, texture_count, buffer_at, texture_at, place_of, page_at, put_page, with_buffers, with_textures, holds_any}
+use Rattle.law.specs.Pages.{World, Area, Surface, Announced, ListStep, OnBuffer, TextureWrite, ClearTexture, Discard, buffer_count, texture_count, buffer_at, texture_at, place_of, page_at, put_page, with_buffers, with_textures, holds_any}
 use Rattle.law.specs.Recording.{Debt, known_page, known_buffer, known_texture, area_causes, texture_write_causes, discard_causes, clear_texture_causes, cleared_area, step_verdict, stepped_page, unless_empty, called_page, announced_page, debt_verdict, settle_causes, settled_page, spent_page, first_read, indebted}
 use Rattle.law.specs.Submitting.{Told, submit_verdict, submitted_world, all_commands, told_of}
 

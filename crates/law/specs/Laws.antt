@@ -1,5 +1,5 @@
 -- The law over runs: what holds after each call of every run from a new planner, over any device.
-use Rattle.std.specs.Prelude.{◌≡◌, ℕ, ◌+◌, ◌≤◌, Bool, true, false, cond, not, ◌&&◌, ◌||◌, List, [], ◌∷◌, ◌++◌}
+use Rattle.std.specs.Prelude.{◌≡◌, ℕ, ◌+◌, ◌≤◌, false, ◌||◌, List, [], ◌∷◌, ◌++◌}
 use Rattle.texture.specs.Shapes.{Shape}
 use Rattle.device.specs.declared.command.Command.{Command}
 use Rattle.device.specs.Commands.{covers as commandCovers}
@@ -7,8 +7,8 @@ use Rattle.device.specs.Meaning.{Meaning, Followed}
 use Rattle.law.specs.Pages.{World, ListStep, OnBuffer, TextureRead, TextureWrite, ClearTexture, SettledClear, Discard, new_world, page_at}
 use Rattle.law.specs.Uses.{commands_for}
 use Rattle.law.specs.Submitting.{shapes, ahead}
-use Rattle.law.specs.Calls.{Call, MakeBuffer, MakeTexture, Destroy, Open, Close, Abandon, BufferRead, BufferWrite, ClearBuffer, WriteTexture, Announce, Settle, Withdraw, DiscardSurface, Clear, Submit, Unknown, Reply, outcome}
-use Rattle.law.specs.Ledger.{Cells, nobody, Marks, Ledger, Entry, History, Each, Deed, ledger_of, tally, Throughout, began_by, cleared_by, overs_by, lost_by, ended_by, count_all, turns_by, HoldsBy, Sound, Thrifty, sums_by, sums_in, bare}
+use Rattle.law.specs.Calls.{Call, MakeBuffer, MakeTexture, Destroy, Open, Close, Abandon, BufferRead, BufferWrite, ClearBuffer, WriteTexture, Announce, Settle, Withdraw, DiscardSurface, Clear, Submit, Unknown, outcome}
+use Rattle.law.specs.Ledger.{Cells, nobody, Ledger, Entry, History, Each, ledger_of, tally, Throughout, began_by, cleared_by, overs_by, lost_by, ended_by, count_all, turns_by, HoldsBy, Sound, Thrifty, sums_by, sums_in, bare}
 
 -- the cells that some of the commands cover
 abbrev pub commanded : List Command → Cells

@@ -1,6 +1,6 @@
 -- The ledger of owing: for each cell the byte that it holds by right, and whether it still owes a clear. It is fed the
 -- calls with their replies, and a choice of clears before each step of an accepted submission.
-use Rattle.std.specs.Prelude.{◌≡◌, ℕ, zero, suc, ◌+◌, ◌<◌, Bool, true, false, cond, not, ◌&&◌, ◌||◌, List, [], ◌∷◌, ◌++◌, Ok, Err, Option, Result, ◌==◌, nat_lt}
+use Rattle.std.specs.Prelude.{◌≡◌, ℕ, zero, suc, ◌+◌, ◌<◌, Bool, true, false, cond, not, ◌&&◌, ◌||◌, List, [], ◌∷◌, ◌++◌, Ok, Err, Result, ◌==◌, nat_lt}
 use Rattle.fault.specs.declared.refusal.Refusal.{Refusal}
 use Rattle.texture.specs.Shapes.{Shape}
 use Rattle.texture.specs.Cells.{cells_of, mip_of, layer_of}
@@ -11,9 +11,8 @@ use Rattle.rules.specs.Steps.{clear_size}
 use Rattle.rules.specs.Uses.{buffer_of, start_of, end_of, cover_end}
 use Rattle.rules.specs.declared.step.Step.{Step}
 use Rattle.rules.specs.declared.step.Step.TheVariants as step
-use Rattle.law.specs.Pages.{Area, Surface, Announced, ListStep, OnBuffer, TextureRead, TextureWrite, ClearTexture, SettledClear, Discard, in_area, holds_any}
-use Rattle.law.specs.Recording.{Debt, unless_empty, read_steps, cleared_area}
-use Rattle.law.specs.Submitting.{Told}
+use Rattle.law.specs.Pages.{Announced, ListStep, OnBuffer, TextureRead, TextureWrite, ClearTexture, SettledClear, Discard, in_area, holds_any}
+use Rattle.law.specs.Recording.{unless_empty, read_steps, cleared_area}
 use Rattle.law.specs.Calls.{Call, MakeBuffer, MakeTexture, Destroy, Open, Close, Abandon, BufferRead, BufferWrite, ClearBuffer, WriteTexture, Announce, Settle, Withdraw, DiscardSurface, Clear, Submit, Unknown, Reply, Made, Done, Owed, Submitted, Declined, HandedBack}
 
 -- a set of cells, and a byte for each, by slot and cell

@@ -1,8 +1,7 @@
 -- What a planner knows between two calls once textures join: resources with their books, and lists of steps on both kinds.
-use Rattle.std.specs.Prelude.{ℕ, ◌+◌, ◌-◌, Bool, true, false, cond, not, ◌&&◌, ◌||◌, List, [], ◌∷◌, ◌++◌, replicate, ◌==◌, nat_lt, slice_index_or, slice_set}
-use Rattle.texture.specs.Shapes.{Shape}
+use Rattle.std.specs.Prelude.{ℕ, ◌-◌, Bool, false, cond, not, ◌&&◌, ◌||◌, List, [], ◌∷◌, ◌++◌, replicate, ◌==◌, nat_lt, slice_index_or, slice_set}
 use Rattle.range_list.specs.Ranges.{inside}
-use Rattle.rules.specs.State.{Book, Buffer, Texture, no_buffer, no_texture}
+use Rattle.rules.specs.State.{Buffer, Texture, no_buffer, no_texture}
 use Rattle.rules.specs.declared.step.Step.{Step}
 use Rattle.rules.specs.declared.list_state.ListState.{ListState}
 use Rattle.rules.specs.declared.list_state.ListState.TheVariants.{Idle}

@@ -1,5 +1,5 @@
 -- Recording: what each step of a list is declined for, and what the list becomes.
-use Rattle.std.specs.Prelude.{ℕ, ◌+◌, ◌-◌, Bool, true, false, cond, not, ◌&&◌, ◌||◌, List, [], ◌∷◌, ◌++◌, map, length, Some, None, Ok, Err, Option, ◌==◌, nat_le, nat_lt}
+use Rattle.std.specs.Prelude.{ℕ, ◌+◌, Bool, true, false, cond, not, ◌&&◌, ◌||◌, List, [], ◌∷◌, ◌++◌, map, length, Some, None, Ok, Err, Option, ◌==◌, nat_le, nat_lt}
 use Rattle.fault.specs.declared.refusal.Refusal.{Refusal}
 use Rattle.fault.specs.declared.refusal.Refusal.TheVariants.{Unknown, Destroyed, Backward, MissingAspect, PastMips, PastLayers, DiscardNotCovered, NoClearMode, ListFull, NotThisDebt}
 use Rattle.texture.specs.Shapes.{Shape, layers_of}
@@ -7,7 +7,7 @@ use Rattle.texture.specs.declared.format.Format.{Format}
 use Rattle.texture.specs.declared.format.Format.TheVariants.{R8Unorm, Rgba8Unorm, Rgba32Float, Bc1RgbaUnorm, Astc6x5Unorm, Depth32Float}
 use Rattle.texture.specs.declared.format.ClearMode.{ClearMode}
 use Rattle.texture.specs.declared.format.ClearMode.TheVariants as mode
-use Rattle.rules.specs.State.{Buffer, Texture}
+use Rattle.rules.specs.State.{Texture}
 use Rattle.rules.specs.Verdicts.{Verdict, tried, and_then, accepts}
 use Rattle.rules.specs.Lists.{allows, becomes}
 use Rattle.rules.specs.Steps.{given_up}
@@ -15,7 +15,7 @@ use Rattle.rules.specs.declared.list_state.ListState.{ListState}
 use Rattle.rules.specs.declared.list_state.ListState.TheVariants.{Idle, Recording, InDebt, Closed, Broken}
 use Rattle.rules.specs.declared.list_state.ListCall.{ListCall}
 use Rattle.rules.specs.declared.list_state.ListCall.TheVariants.{Open, Close, Abandon, Step as Record, Submit}
-use Rattle.law.specs.Pages.{World, Page, Area, Surface, Announced, ListStep, TextureRead, SettledClear, buffer_count, list_count, page_at, texture_at, idle_page, holds_any, may_discard, discards_from, owed_by, uses_of}
+use Rattle.law.specs.Pages.{World, Page, Area, Surface, Announced, ListStep, TextureRead, SettledClear, buffer_count, list_count, page_at, texture_at, idle_page, holds_any, may_discard, discards_from, owed_by}
 
 -- a number of a list that there is; a number of a buffer, and of a texture, that was given out
 abbrev pub known_page : ℕ → Verdict

@@ -1,21 +1,21 @@
 -- Submission: what declines it before the first command, and what an accepted one does.
-use Rattle.std.specs.Prelude.{ℕ, ◌+◌, ◌-◌, ◌*◌, Bool, true, false, cond, not, ◌&&◌, ◌||◌, List, [], ◌∷◌, ◌++◌, length, Ok, Err, Result, nat_le}
+use Rattle.std.specs.Prelude.{ℕ, ◌+◌, ◌-◌, ◌*◌, Bool, true, false, cond, ◌&&◌, List, [], ◌∷◌, ◌++◌, length, Ok, Err, Result, nat_le}
 use Rattle.fault.specs.declared.Fault.{Fault}
 use Rattle.fault.specs.declared.call_kind.CallKind.TheVariants.{Submit as Submitting}
-use Rattle.fault.specs.declared.refusal.Refusal.TheVariants.{Destroyed, NoClearMode, PlacesFull, AllowanceShort, BadDescription}
+use Rattle.fault.specs.declared.refusal.Refusal.TheVariants.{Destroyed, NoClearMode, PlacesFull, BadDescription}
 use Rattle.fault.specs.Parts.{fault_of}
 use Rattle.texture.specs.Shapes.{Shape}
 use Rattle.texture.specs.Cells.{surface_first, surface_cells}
 use Rattle.device.specs.declared.command.Command.{Command}
 use Rattle.device.specs.Meaning.{Meaning, ran}
-use Rattle.rules.specs.State.{Buffer, Texture, no_buffer}
-use Rattle.rules.specs.Verdicts.{and_then, accepts, told}
+use Rattle.rules.specs.State.{Buffer, Texture}
+use Rattle.rules.specs.Verdicts.{and_then, told}
 use Rattle.rules.specs.Lists.{allows}
 use Rattle.rules.specs.Uses.{buffer_of}
 use Rattle.rules.specs.Planning.{drain_step, drain_steps, holds, planned, clears_of}
 use Rattle.rules.specs.Submission.{all_fit, step_fits, enough}
 use Rattle.rules.specs.declared.list_state.ListCall.TheVariants.{Submit}
-use Rattle.law.specs.Pages.{World, Page, Area, Surface, ListStep, OnBuffer, TextureRead, TextureWrite, ClearTexture, SettledClear, Discard, buffer_at, texture_at, texture_in, page_at, put_page, with_buffers, with_textures, idle_page, discards_from}
+use Rattle.law.specs.Pages.{World, Area, ListStep, OnBuffer, TextureRead, TextureWrite, ClearTexture, SettledClear, Discard, buffer_at, texture_at, texture_in, page_at, put_page, with_buffers, with_textures, idle_page, discards_from}
 use Rattle.law.specs.Uses.{owes_any, drained_by, drained_by_all, needed_by_all, discard_all, commands_for_all, sums_for_all, on_buffers, cells_named, settled_commands, up_from}
 use Rattle.law.specs.Recording.{known_page, unclearable}
 

@@ -1,5 +1,5 @@
 -- What a step on a texture does: what it takes out of the book, what the device is asked to do for it, and what it sums.
-use Rattle.std.specs.Prelude.{ℕ, zero, suc, ◌+◌, ◌-◌, ◌*◌, Bool, true, false, cond, not, ◌&&◌, ◌||◌, List, [], ◌∷◌, ◌++◌, map, length, set, ◌==◌, slice_set}
+use Rattle.std.specs.Prelude.{ℕ, zero, suc, ◌+◌, ◌-◌, ◌*◌, Bool, false, cond, not, ◌&&◌, ◌||◌, List, [], ◌∷◌, ◌++◌, map, length, set, ◌==◌, slice_set}
 use Rattle.std.specs.List.{flat_map}
 use Rattle.texture.specs.Shapes.{Shape, layers_of}
 use Rattle.texture.specs.Cells.{surface_first, surface_cells}
@@ -11,11 +11,10 @@ use Rattle.device.specs.declared.command.CommandKind.{CommandKind}
 use Rattle.device.specs.declared.command.CommandKind.TheVariants as kind
 use Rattle.device.specs.Meaning.{ran, summed}
 use Rattle.range_list.specs.Ranges.{inside, drained, pieces, added}
-use Rattle.rules.specs.State.{Book, Buffer, Texture, no_texture}
-use Rattle.rules.specs.Uses.{buffer_of, commands_of, sums_of}
-use Rattle.rules.specs.Planning.{drain_step}
+use Rattle.rules.specs.State.{Book, Texture}
+use Rattle.rules.specs.Uses.{commands_of, sums_of}
 use Rattle.rules.specs.declared.step.Step.{Step}
-use Rattle.law.specs.Pages.{Area, Surface, ListStep, OnBuffer, TextureRead, TextureWrite, ClearTexture, SettledClear, Discard, place_of, texture_in, holds_any}
+use Rattle.law.specs.Pages.{Area, Surface, ListStep, OnBuffer, TextureRead, TextureWrite, ClearTexture, SettledClear, Discard, place_of, texture_in}
 
 -- the numbers from a on, n of them
 abbrev pub up_from : ℕ → ℕ → List ℕ

@@ -1,13 +1,12 @@
 -- Buffers and their books as the rules see them: what a step takes, and what it leaves.
-use Rattle.std.proofs.Common.{◌≡◌, ℕ, ◌+◌, ◌<◌, ◌≤◌, min, max, Bool, true, false, cond, ltb, leb, List, [], ◌∷◌, ◌++◌, map, length, get_or, drop, set, is_ok, Ok, Err, Result, sym, refl, ap, ◌∙◌, subst, arith, length-append}
+use Rattle.std.proofs.Common.{◌≡◌, ℕ, ◌+◌, ◌<◌, ◌≤◌, min, max, Bool, true, false, cond, ltb, leb, List, [], ◌∷◌, ◌++◌, map, length, get_or, drop, set, is_ok, Ok, Err, Result, sym, refl, ap, ◌∙◌, subst, arith}
 use Rattle.std.proofs.lemmas.Bool.{cond_both, cond-true, cond-false, ltb-true, ltb-false, le-leb, lt-leb, leb-true, and_parts}
-use Rattle.std.proofs.lemmas.Bool.Decides.{nat_tests}
-use Rattle.std.proofs.lemmas.List.{get_or-map, get_or_past, set_past, map-set, length-map, at_drop_more}
+use Rattle.std.proofs.lemmas.List.{get_or-map, get_or_past, set_past, map-set, at_drop_more}
 use Rattle.fault.specs.declared.refusal.Refusal.{Refusal}
 use Rattle.fault.specs.declared.refusal.Refusal.TheVariants.{PlacesFull}
 use Rattle.fault.specs.declared.call_kind.CallKind.TheVariants.{Submit as Submitting}
 use Rattle.fault.specs.Parts.{fault_of}
-use Rattle.range_list.specs.Ranges.{part, clip, pieces, drained}
+use Rattle.range_list.specs.Ranges.{pieces, drained}
 use Rattle.init_tracker.specs.Books.{owing, drain_answer, drain_after}
 use Rattle.rules.specs.State.{Buffer as Known, no_buffer}
 use Rattle.rules.specs.Planning.{piece_of, taken, holds, drained_buffer, drain_step}

@@ -1,5 +1,5 @@
 -- A test of each element of a list, one more at a time.
-use Rattle.std.proofs.Common.{◌≡◌, ℕ, ◌+◌, ◌<◌, Bool, true, false, ◌&&◌, List, [], ◌∷◌, length, get_or, drop, sym, refl, ap, ◌∙◌}
+use Rattle.std.proofs.Common.{◌≡◌, ℕ, ◌+◌, ◌<◌, Bool, true, false, ◌&&◌, List, ◌∷◌, length, get_or, drop, sym, ap, ◌∙◌}
 use Rattle.std.proofs.lemmas.List.{at_drop_more}
 
 module _ {X : Type 0} (test : X → Bool) (all : List X → Bool) (steps : (x : X) (xs : List X) → all (x ∷ xs) ≡ (test x && all xs)) (xs : List X) (i : ℕ) (d : X) (lt : i < length xs) where

@@ -1,5 +1,5 @@
 -- A planner's buffers as the rules speak of them.
-use Rattle.std.specs.Prelude.{ℕ, Bool, true, false, ◌&&◌, List, [], ◌∷◌, map, nat_le}
+use Rattle.std.specs.Prelude.{Bool, true, ◌&&◌, List, [], ◌∷◌, map, nat_le}
 use Rattle.init_tracker.specs.Books.{owing}
 use Rattle.rules.specs.State.{Buffer as Known}
 use Rattle.rules.specs.Uses.{end_of}

@@ -1,9 +1,8 @@
 -- What a declined submission and an accepted one come to.
-use Rattle.std.proofs.Common.{◌≡◌, ℕ, Bool, true, false, cond, List, [], ◌∷◌, length, get_or, set, Ok, Err, sym, refl, ap, ◌∙◌}
+use Rattle.std.proofs.Common.{◌≡◌, ℕ, Bool, true, false, cond, List, [], ◌∷◌, length, get_or, Ok, Err, sym, refl, ap, ◌∙◌}
 use Rattle.std.proofs.lemmas.Bool.{cond-true, cond-false, cond_both}
 use Rattle.fault.specs.declared.Fault.{Fault}
 use Rattle.device.specs.Meaning.{Meaning}
-use Rattle.device.specs.declared.command.Command.{Command}
 use Rattle.rules.specs.Planning.{drain_step, drained_buffer, drain_steps}
 use Rattle.rules.specs.State.{State, Buffer as Known, no_buffer, idle_list, list_at, with_buffers, put_list}
 use Rattle.rules.specs.Submission.{all_commands, reported, submit_answer, submit_after, submit_commands, submit_report}

@@ -1,12 +1,11 @@
 -- One list or one buffer of a planner, as the rules see it.
-use Rattle.std.proofs.Common.{◌≡◌, ℕ, ◌<◌, ◌≤◌, Bool, true, false, cond, not, ltb, List, [], ◌∷◌, map, length, get_or, set, Ok, Err, Result, sym, refl, ap, ◌∙◌, arith}
+use Rattle.std.proofs.Common.{◌≡◌, ℕ, ◌<◌, ◌≤◌, not, ltb, List, [], ◌∷◌, map, length, get_or, set, Ok, Err, sym, ap, ◌∙◌, arith}
 use Rattle.std.proofs.lemmas.List.{get_or-map, get_or_past, set_past, map-set, length-map}
 use Rattle.std.proofs.lemmas.Bool.{cond-true, cond-false, lt-ltb, le-ltb}
-use Rattle.fault.specs.declared.Fault.{Fault}
 use Rattle.fault.specs.declared.call_kind.CallKind.{CallKind}
 use Rattle.fault.specs.declared.refusal.Refusal.TheVariants.{Unknown, Destroyed}
-use Rattle.rules.specs.Lists.{allows, next_list, list_answer, list_after}
-use Rattle.rules.specs.Making.{destroy_verdict, destroyed_buffer}
+use Rattle.rules.specs.Lists.{allows, list_answer}
+use Rattle.rules.specs.Making.{destroy_verdict}
 use Rattle.rules.specs.State.{State, Buffer as KnownBuffer, CommandList as Known, no_buffer, idle_list, buffer_at, list_at, with_buffers, with_lists, put_list}
 use Rattle.rules.specs.Verdicts.{Verdict, and_then, told, tried, known_buffer, known_list}
 use Rattle.plan.specs.Views.{view_buffer, view_buffers}

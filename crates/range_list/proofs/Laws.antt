@@ -1,12 +1,12 @@
 -- What the definitions of the ranges mean by positions, and how a drain, pieces and a discard are found from two places in a list.
-use Rattle.std.proofs.Common.{◌≡◌, ℕ, zero, suc, ◌+◌, ◌-◌, ◌*◌, ◌/◌, ◌<◌, ◌≤◌, min, max, Bool, true, false, cond, not, ◌&&◌, ◌||◌, eqb, ltb, leb, List, [], ◌∷◌, ◌++◌, map, length, get_or, take, drop, sym, refl, ap, ◌∙◌, subst, inl, inr, append_assoc, suc-le-suc, zero-le, arith, length-append, rules}
+use Rattle.std.proofs.Common.{◌≡◌, ℕ, zero, suc, ◌+◌, ◌-◌, ◌*◌, ◌/◌, ◌<◌, ◌≤◌, min, max, Bool, false, not, ◌&&◌, ◌||◌, eqb, ltb, leb, List, [], ◌∷◌, ◌++◌, map, length, get_or, take, drop, sym, refl, ap, ◌∙◌, inl, inr, append_assoc, arith}
 use mathlib.Core.Logic.{∥∥₁_elim}
 use native.Mathlib.Bridge.{le_prop}
 use Rattle.std.specs.List.{flat_map}
 use Rattle.std.proofs.lemmas.Bool.{cond_both, cases_lt, cond-true, cond-false, lt-ltb, le-ltb, ltb-true, ltb-false, eqb-true, eqb-false, leb-true, leb-false, ne_eqb, eq-eqb, le-leb, lt-leb}
 use Rattle.std.proofs.lemmas.List.{drop_more, drop_all, get_or_default, take-append-drop, length-map, length-take, length-drop}
 use Rattle.std.proofs.lemmas.Bool.Decides.{nat_tests}
-use Rattle.range_list.specs.Ranges.{SoundFrom, Sound, inside, member, part, clip, pieces, cut, drained, left_of, begun, closed, join, discarded, count, lengths, clipped, whole}
+use Rattle.range_list.specs.Ranges.{SoundFrom, Sound, inside, member, part, clip, pieces, cut, drained, begun, closed, join, discarded, count, lengths, clipped, whole}
 
 -- the one range of a part that is not empty, and none of one that is
 pub part_some : (a b : ℕ) → a < b → part a b ≡ (a, b) ∷ []

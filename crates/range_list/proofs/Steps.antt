@@ -1,10 +1,10 @@
 -- What the steps of a drain do to a view.
-use Rattle.std.proofs.Common.{◌≡◌, ℕ, zero, suc, ◌+◌, ◌-◌, ◌<◌, ◌≤◌, max, eqb, List, [], ◌∷◌, ◌++◌, map, length, get_or, take, drop, set, Ok, Err, Result, sym, refl, ap, ◌∙◌, inl, inr, append_assoc, add-one, arith, length-append, length-drop, length-take, MatchResult}
+use Rattle.std.proofs.Common.{◌≡◌, ℕ, zero, suc, ◌+◌, ◌-◌, ◌<◌, ◌≤◌, max, eqb, List, [], ◌∷◌, ◌++◌, map, length, get_or, take, drop, set, Ok, Err, Result, sym, refl, ap, ◌∙◌, inl, inr, append_assoc, add-one, arith, length-drop, length-take, MatchResult}
 use Rattle.std.specs.List.{insert}
-use Rattle.std.proofs.lemmas.List.{append-nil, map-set, get_or-map, get_or-take, length-take-le, length-set, take_more_set, take_more, drop_more, drop-set-lt, drop-drop, drop_at, take_at, take-take, take-append-le, drop_all, take_all, set_split, length-map, map_push, map_more, get_or-drop, take-set-le, drop-set}
+use Rattle.std.proofs.lemmas.List.{append-nil, map-set, get_or-map, get_or-take, length-take-le, length-set, take_more_set, drop_more, drop-set-lt, drop-drop, drop_at, take-take, take-append-le, drop_all, take_all, set_split, length-map, map_push, map_more, get_or-drop, take-set-le, drop-set}
 use Rattle.std.proofs.lemmas.Bool.{cond-true, cond-false, eq-eqb, ne_eqb, cases_lt}
 use Rattle.std.proofs.lemmas.List.Edits.{length-insert}
-use Rattle.range_list.specs.Ranges.{part, left_of, begun, closed, clipped, join}
+use Rattle.range_list.specs.Ranges.{left_of, begun, closed, clipped, join}
 use Rattle.range_list.proofs.Laws.{part_some, part_none}
 use Rattle.range_list.specs.declared.list.InitTracker.{InitTracker}
 use Rattle.range_list.specs.View.{ends, view}

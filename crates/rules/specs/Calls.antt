@@ -1,5 +1,5 @@
 -- Each call of a planner as one function of what was: its answer, the state, the commands and the report after it.
-use Rattle.std.specs.Prelude.{ℕ, ◌+◌, Bool, true, false, cond, List, [], Ok, Err, Option, Result}
+use Rattle.std.specs.Prelude.{ℕ, ◌+◌, List, [], Ok, Err, Result}
 use Rattle.fault.specs.declared.Fault.{Fault}
 use Rattle.fault.specs.declared.call_kind.CallKind.TheVariants as kind
 use Rattle.fault.specs.declared.refusal.Refusal.TheVariants as cause

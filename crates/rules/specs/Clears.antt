@@ -1,5 +1,5 @@
 -- What WebGPU's clearBuffer refuses, and that a clear refuses just that.
-use Rattle.std.specs.Prelude.{◌≡◌, ℕ, ◌+◌, ◌-◌, ◌%◌, ◌^◌, ◌<◌, Bool, true, false, cond, not, ◌&&◌, ◌||◌, Some, None, Option, nat_lt}
+use Rattle.std.specs.Prelude.{◌≡◌, ℕ, ◌+◌, ◌^◌, ◌<◌, Bool, not, ◌||◌, Option, nat_lt}
 use Rattle.rules.specs.State.{Buffer}
 use Rattle.rules.specs.Steps.{clear_size, clear_causes}
 use Rattle.rules.specs.Verdicts.{tried, accepts, unaligned}

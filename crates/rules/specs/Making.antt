@@ -1,7 +1,6 @@
 -- Making a buffer, and destroying one.
-use Rattle.std.specs.Prelude.{ℕ, ◌+◌, Bool, true, false, cond, not, List, [], ◌∷◌, Ok, Err, Result, ◌==◌, nat_le, nat_lt, slice_set}
+use Rattle.std.specs.Prelude.{ℕ, ◌+◌, true, false, cond, not, [], ◌∷◌, Ok, Err, Result, ◌==◌, nat_le, nat_lt, slice_set}
 use Rattle.fault.specs.declared.Fault.{Fault}
-use Rattle.fault.specs.declared.call_kind.CallKind.{CallKind}
 use Rattle.fault.specs.declared.call_kind.CallKind.TheVariants.{MakeBuffer, Destroy}
 use Rattle.fault.specs.declared.refusal.Refusal.TheVariants.{Destroyed, NoNumberFree, BadDescription}
 use Rattle.fault.specs.Parts.{fault_of}

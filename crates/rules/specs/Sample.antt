@@ -1,5 +1,5 @@
 -- A small run by the rules: a buffer of 6 bytes, 0..4 written with 9, 0..6 read, submitted, and submitted again.
-use Rattle.std.specs.Prelude.{◌≡◌, ℕ, ◌-◌, List, [], ◌∷◌, length, replicate}
+use Rattle.std.specs.Prelude.{◌≡◌, ℕ, ◌-◌, List, [], ◌∷◌, length}
 use Rattle.fault.specs.declared.call_kind.CallKind.TheVariants.{Submit as Submitting}
 use Rattle.fault.specs.declared.refusal.Refusal.TheVariants.{WrongState}
 use Rattle.fault.specs.Parts.{fault_of}

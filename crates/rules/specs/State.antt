@@ -1,5 +1,5 @@
 -- What a planner knows between two calls: its buffers with their books, and its lists.
-use Rattle.std.specs.Prelude.{ℕ, ◌+◌, ◌*◌, ◌/◌, Bool, true, false, List, [], map, replicate, slice_index_or, slice_set}
+use Rattle.std.specs.Prelude.{ℕ, ◌+◌, ◌*◌, ◌/◌, Bool, false, List, [], map, replicate, slice_index_or, slice_set}
 use Rattle.texture.specs.Shapes.{Shape}
 use Rattle.texture.specs.declared.format.Format.TheVariants.{R8Unorm}
 use Rattle.texture.specs.declared.format.Dimension.TheVariants.{D2}

@@ -1,5 +1,5 @@
 -- Submission: what declines it before the first command, and what an accepted one does.
-use Rattle.std.specs.Prelude.{ℕ, ◌+◌, ◌-◌, Bool, true, false, cond, ◌&&◌, List, [], ◌∷◌, ◌++◌, length, drop, Ok, Err, Result, nat_le, slice_index_or}
+use Rattle.std.specs.Prelude.{ℕ, ◌+◌, ◌-◌, Bool, true, cond, ◌&&◌, List, [], ◌∷◌, ◌++◌, length, drop, Ok, Err, Result, nat_le, slice_index_or}
 use Rattle.fault.specs.declared.Fault.{Fault}
 use Rattle.fault.specs.declared.call_kind.CallKind.TheVariants.{Submit as Submitting}
 use Rattle.fault.specs.declared.refusal.Refusal.TheVariants.{Destroyed, PlacesFull, AllowanceShort, BadDescription}
@@ -7,8 +7,8 @@ use Rattle.fault.specs.Parts.{fault_of}
 use Rattle.device.specs.declared.command.Command.{Command}
 use Rattle.device.specs.Commands.{fits_in}
 use Rattle.device.specs.Meaning.{Meaning, ran}
-use Rattle.rules.specs.State.{State, Buffer, CommandList, no_buffer, idle_list, list_at, with_buffers, put_list}
-use Rattle.rules.specs.Verdicts.{and_then, accepts, told, known_list}
+use Rattle.rules.specs.State.{State, Buffer, no_buffer, idle_list, list_at, with_buffers, put_list}
+use Rattle.rules.specs.Verdicts.{and_then, accepts, told}
 use Rattle.rules.specs.Lists.{list_verdict}
 use Rattle.rules.specs.Uses.{buffer_of, start_of, end_of, step_commands, step_sums, commands_before}
 use Rattle.rules.specs.Planning.{drain_step, drain_steps, holds, planned, clears_of, cells_in}

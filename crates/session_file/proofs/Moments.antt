@@ -1,5 +1,5 @@
 -- A planner over a journal goes from moment to moment as the session says.
-use Rattle.std.proofs.Common.{◌≡◌, ℕ, ◌-◌, List, [], ◌++◌, length, get_or, take, drop, replicate, vec_items, vec_len, sym, refl, ap, ◌∙◌, arith}
+use Rattle.std.proofs.Common.{◌≡◌, ℕ, ◌-◌, List, [], ◌++◌, length, get_or, drop, replicate, vec_items, vec_len, refl, ap, ◌∙◌, arith}
 use Rattle.std.proofs.lemmas.List.{drop_at, length-take-le}
 use Rattle.device.specs.Journal.{Continued, meaning_of, written}
 use Rattle.device.specs.Meaning.{Meaning, most_cells, ran}

@@ -1,6 +1,5 @@
 -- The lines of a listing, as bytes.
 use Rattle.std.specs.Prelude.{ℕ, List, [], ◌∷◌, ◌++◌, codes, decimal}
-use Rattle.fault.specs.declared.refusal.Refusal.TheVariants.{BadDescription}
 use Rattle.fault.specs.Numbers.{number_of}
 use Rattle.device.specs.declared.command.Command.{Command}
 use Rattle.device.specs.declared.command.CommandKind.{CommandKind}

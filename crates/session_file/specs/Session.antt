@@ -1,5 +1,5 @@
 -- A whole session, from the bytes of its file to the bytes of its listing.
-use Rattle.std.specs.Prelude.{ℕ, zero, suc, ◌+◌, ◌-◌, List, [], ◌∷◌, ◌++◌, length, drop, replicate, Some, None, Option, slice_index}
+use Rattle.std.specs.Prelude.{ℕ, zero, suc, ◌+◌, ◌-◌, List, [], ◌++◌, length, drop, replicate, Some, None, Option, slice_index}
 use Rattle.device.specs.declared.command.Command.{Command}
 use Rattle.device.specs.Meaning.{Meaning, most_cells, ran}
 use Rattle.rules.specs.State.{State, new_state}

@@ -1,5 +1,5 @@
 -- The runs that clear a surface are exactly its cells.
-use Rattle.std.proofs.Common.{◌≡◌, ℕ, ◌+◌, ◌≤◌, true, false, ◌&&◌, ◌⊎◌, List, [], ◌∷◌, Some, None as Nothing, sym, refl, ap, ◌∙◌, subst, ⊎_elim, one-mul, arith}
+use Rattle.std.proofs.Common.{◌≡◌, ℕ, ◌+◌, true, ◌&&◌, ◌⊎◌, List, [], ◌∷◌, Some, None as Nothing, sym, refl, ap, ◌∙◌, ⊎_elim, one-mul, arith}
 use Rattle.std.proofs.lemmas.Bool.{false≢true, and_from, cond-true}
 use Rattle.texture.specs.Tiles.{is_surface}
 use Rattle.texture.specs.Shapes.{Shape, proper}

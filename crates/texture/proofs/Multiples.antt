@@ -1,7 +1,7 @@
 -- The least common multiple: what the definition finds is least, and it is the product over the greatest common divisor.
-use Rattle.std.proofs.Common.{◌≡◌, ℕ, zero, suc, ◌+◌, ◌-◌, ◌*◌, ◌/◌, ◌%◌, ◌<◌, ◌≤◌, Bool, true, false, cond, ◌&&◌, eqb, sym, refl, ap, ◌∙◌, subst, ⊎_elim, le_refl, mul-le-mul_right, mod-lt, mul_assoc, mul_comm, mul-le-mul, mul-le-mul_left, mul-pos, mul-suc, div-le_self, arith}
+use Rattle.std.proofs.Common.{◌≡◌, ℕ, zero, suc, ◌+◌, ◌-◌, ◌*◌, ◌/◌, ◌%◌, ◌<◌, ◌≤◌, Bool, true, false, cond, ◌&&◌, eqb, sym, ap, ◌∙◌, subst, ⊎_elim, le_refl, mul-le-mul_right, mod-lt, mul_assoc, mul_comm, mul-le-mul_left, mul-pos, mul-suc, div-le_self, arith}
 use Prim.Native.Nat.{◌∣◌}
-use native.Mathlib.Nat.{le_of_dvd, dvd-mul_left, dvd-mul_right, dvd-sub, dvd-mul_right_of_dvd, dvd_of_mod-eq-zero, mod-eq-zero_of_dvd, div-mul_cancel, mul-div_assoc, mod_def, dvd-mod_iff, dvd-zero, mul-div_cancel_left, mod-zero}
+use native.Mathlib.Nat.{le_of_dvd, dvd-mul_left, dvd-mul_right, dvd-sub, dvd-mul_right_of_dvd, dvd_of_mod-eq-zero, mod-eq-zero_of_dvd, div-mul_cancel, mul-div_assoc, mod_def, dvd-mod_iff, mul-div_cancel_left, mod-zero}
 use Rattle.std.proofs.lemmas.Bool.{and_parts, and_from, eqb-true, eq-eqb, cases_Bool, cases_lt, cases_order, true≢false}
 use Rattle.texture.specs.Copies.{first_passing, common_multiple, lcm}
 

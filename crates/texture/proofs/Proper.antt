@@ -1,9 +1,8 @@
 -- What a proper shape keeps to, limit by limit.
-use Rattle.std.proofs.Common.{◌≡◌, ℕ, ◌+◌, ◌-◌, ◌*◌, ◌/◌, ◌%◌, ◌^◌, ◌<◌, ◌≤◌, max, Bool, true, false, cond, ◌&&◌, ◌||◌, eqb, leb, refl, ⊎_elim, lt_of_lt_of_le, arith, pow_mono}
+use Rattle.std.proofs.Common.{◌≡◌, ℕ, ◌-◌, ◌*◌, ◌/◌, ◌%◌, ◌^◌, ◌<◌, ◌≤◌, Bool, true, false, cond, ◌&&◌, ◌||◌, eqb, leb, ⊎_elim, lt_of_lt_of_le, arith, pow_mono}
 use native.Mathlib.Nat.{div-eq_of_lt, max-le}
-use Rattle.std.proofs.lemmas.Bool.{and_parts, leb-true, eqb-true, cases_lt, cases_Bool}
+use Rattle.std.proofs.lemmas.Bool.{and_parts, leb-true, eqb-true, cases_lt}
 use Rattle.texture.specs.Shapes.{Shape, block_width, block_height, suits, flat, flat_mode, flat_format, between, layers_of, depth_of, largest, proper}
-use Rattle.texture.specs.declared.format.Dimension.TheVariants.{D2, D3}
 
 pub between_parts : (lo hi n : ℕ) → between lo hi n ≡ true → (lo ≤ n) × (n ≤ hi)
 between_parts lo hi n h = let p = and_parts (leb lo n) (leb n hi) h in (leb-true lo n p.0, leb-true n hi p.1)

@@ -1,6 +1,6 @@
 -- Rows of bytes: they hold their blocks, and the zeros suffice for at least one row of blocks.
-use Rattle.std.proofs.Common.{◌≡◌, ℕ, ◌+◌, ◌-◌, ◌*◌, ◌/◌, ◌%◌, ◌<◌, ◌≤◌, true, sym, refl, ap, ◌∙◌, subst, le_trans, mul-le-mul_right, mul_assoc, mul_comm, mul-le-mul, mul-le-mul_left, mul-pos, one-mul, div-le_self, div-mul-le_self, mul-div_cancel, arith}
-use native.Mathlib.Nat.{lt-div-mul-add, mul-mod_left}
+use Rattle.std.proofs.Common.{◌≡◌, ℕ, ◌+◌, ◌-◌, ◌*◌, ◌/◌, ◌<◌, ◌≤◌, true, sym, subst, le_trans, mul-le-mul_right, mul-le-mul_left, mul-pos, one-mul, div-le_self, div-mul-le_self, mul-div_cancel, arith}
+use native.Mathlib.Nat.{lt-div-mul-add}
 use Rattle.std.proofs.lemmas.Nat.{le-div}
 use Rattle.texture.specs.Shapes.{Shape, block_bytes, block_width, block_height, proper}
 use Rattle.texture.specs.Cells.{side, blocks, across}
@@ -9,7 +9,7 @@ use Rattle.texture.specs.Runs.{pitch_fits}
 use Rattle.texture.specs.declared.format.Format.{Format}
 use Rattle.texture.specs.declared.format.Format.TheVariants.{R8Unorm, Rgba8Unorm, Rgba32Float, Bc1RgbaUnorm, Astc6x5Unorm, Depth32Float}
 use Rattle.texture.proofs.Proper.{between_parts, width_kept}
-use Rattle.texture.proofs.Sides.{side_some, side_le, across_some}
+use Rattle.texture.proofs.Sides.{side_le, across_some}
 use Rattle.texture.proofs.Multiples.{lcm_some, lcm_most}
 
 pub aligned_up : (k n : ℕ) → 0 < k → n ≤ aligned_to k n

@@ -1,11 +1,11 @@
 -- Sides, blocks and surfaces: at least one of each, and no more than the first mip has.
-use Rattle.std.proofs.Common.{◌≡◌, ℕ, zero, suc, ◌+◌, ◌-◌, ◌*◌, ◌/◌, ◌%◌, ◌^◌, ◌<◌, ◌≤◌, max, true, false, cond, le_trans, mul-le-mul_right, mul_assoc, mul_comm, mul-le-mul, mul-le-mul_left, mul-pos, div-le_self, arith}
+use Rattle.std.proofs.Common.{◌≡◌, ℕ, zero, suc, ◌*◌, ◌/◌, ◌^◌, ◌≤◌, true, le_trans, mul_assoc, mul-le-mul, mul-le-mul_left, mul-pos, div-le_self, arith}
 use native.Mathlib.Nat.{max-le, le-max_left}
 use Rattle.texture.specs.Shapes.{Shape, block_width, block_height, layers_of, depth_of, proper}
-use Rattle.texture.specs.Cells.{side, blocks, across, down, slices, surface_cells, mip_first, surface_first, cells_of}
+use Rattle.texture.specs.Cells.{side, blocks, across, down, slices, surface_cells, mip_first, cells_of}
 use Rattle.texture.specs.declared.format.Format.{Format}
 use Rattle.texture.specs.declared.format.Format.TheVariants.{R8Unorm, Rgba8Unorm, Rgba32Float, Bc1RgbaUnorm, Astc6x5Unorm, Depth32Float}
-use Rattle.texture.proofs.Proper.{width_kept, height_kept, depth_kept, layers_kept, layers_depth, mips_kept}
+use Rattle.texture.proofs.Proper.{width_kept, height_kept, depth_kept, layers_depth, mips_kept}
 
 pub side_some : (n m : ℕ) → 1 ≤ side n m
 side_some n m = le-max_left 1 (n / 2 ^ m)

@@ -1,5 +1,5 @@
 -- Steps of a walk over runs: into the next slice, and over one run.
-use Rattle.std.proofs.Common.{◌≡◌, ℕ, zero, suc, ◌+◌, ◌-◌, ◌*◌, ◌<◌, ◌≤◌, min, List, [], ◌∷◌, ◌++◌, sym, refl, ap, ◌∙◌, subst, add-zero, add_assoc, zero-mul, arith}
+use Rattle.std.proofs.Common.{◌≡◌, ℕ, suc, ◌+◌, ◌-◌, ◌*◌, ◌≤◌, min, List, [], ◌∷◌, ◌++◌, sym, ap, ◌∙◌, zero-mul, arith}
 use native.Mathlib.Nat.{min-le_right}
 use Rattle.texture.specs.Copies.{runs_down, slice_runs}
 use Rattle.texture.proofs.Walks.{runs_next, suc_times}

@@ -1,10 +1,9 @@
 -- Each cell of a texture lies in one surface.
-use Rattle.std.proofs.Common.{◌≡◌, ℕ, zero, suc, ◌+◌, ◌-◌, ◌*◌, ◌/◌, ◌%◌, ◌<◌, ◌≤◌, Bool, true, false, cond, ◌&&◌, ltb, leb, sym, refl, ap, ◌∙◌, subst, ⊎_elim, le_refl, add-zero, mul-le-mul_right, mod-lt, mul_comm, zero-add, mul-suc, arith}
-use native.Mathlib.Nat.{div-add-mod}
+use Rattle.std.proofs.Common.{◌≡◌, ℕ, zero, suc, ◌+◌, ◌-◌, ◌*◌, ◌/◌, ◌%◌, ◌<◌, ◌≤◌, true, ltb, leb, sym, refl, ap, ◌∙◌, subst, ⊎_elim, le_refl, add-zero, mul-le-mul_right, mod-lt, mul_comm, mul-suc, arith}
 use lib.Arith.{digits_div}
 use Rattle.std.proofs.lemmas.Bool.{and_parts, and_from, leb-true, ltb-true, le-leb, lt-ltb, lt-leb, cases_lt, cond-true, cond-false}
 use Rattle.std.proofs.lemmas.Nat.{div_below, div-add-mod'}
-use Rattle.texture.specs.Shapes.{Shape, layers_of, proper}
+use Rattle.texture.specs.Shapes.{Shape, layers_of}
 use Rattle.texture.specs.Cells.{surface_cells, mip_first, surface_first, cells_of, in_surface, mips_before, mip_of, layer_of}
 use Rattle.texture.proofs.Sides.{surface_some}
 

@@ -1,11 +1,9 @@
 -- Runs down a slice and over slices: what the next one is, how many there are, and that they follow each other.
-use Rattle.std.proofs.Common.{◌≡◌, ℕ, zero, suc, ◌+◌, ◌-◌, ◌*◌, ◌/◌, ◌<◌, ◌≤◌, min, Bool, true, false, cond, ◌&&◌, ◌||◌, eqb, ltb, leb, List, [], ◌∷◌, ◌++◌, length, sym, refl, ap, ◌∙◌, subst, ap₂, ⊎_elim, append_assoc, add-zero, add_assoc, mul_comm, add-mul, mul-pos, zero-mul, mul-suc, arith, length-append}
-use native.Mathlib.Nat.{min-le_left, min-le_right, min-eq_left, min-eq_right, div-eq_of_lt, div-eq_of_lt-le, add-div_right}
+use Rattle.std.proofs.Common.{◌≡◌, ℕ, zero, suc, ◌+◌, ◌-◌, ◌*◌, ◌/◌, ◌<◌, ◌≤◌, min, cond, eqb, [], ◌∷◌, length, sym, refl, ap, ◌∙◌, ap₂, ⊎_elim, mul_comm, zero-mul, mul-suc, arith, length-append}
+use native.Mathlib.Nat.{min-eq_left, min-eq_right, div-eq_of_lt, div-eq_of_lt-le, add-div_right}
 use lib.Dec.{eqb-suc-zero}
-use Rattle.std.proofs.lemmas.Bool.{cases_lt, le-leb, lt-ltb, lt-leb, le-ltb}
-use Rattle.std.proofs.lemmas.Bool.Decides.{nat_tests}
+use Rattle.std.proofs.lemmas.Bool.{cases_lt}
 use Rattle.texture.specs.Copies.{runs_down, slice_runs}
-use Rattle.texture.specs.Runs.{Consecutive, in_runs, run_cells}
 
 pub no_rows : (n each wide first : ℕ) → runs_down n each wide first 0 ≡ []
 no_rows zero each wide first = refl

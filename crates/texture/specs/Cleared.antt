@@ -1,5 +1,5 @@
 -- What the definitions of copies and runs mean, and their values at some textures.
-use Rattle.std.specs.Prelude.{◌≡◌, ℕ, ◌+◌, ◌*◌, ◌%◌, ◌<◌, ◌≤◌, true, List, length}
+use Rattle.std.specs.Prelude.{◌≡◌, ℕ, ◌+◌, ◌*◌, ◌%◌, ◌<◌, ◌≤◌, true, length}
 use Rattle.texture.specs.Shapes.{Shape, block_bytes, proper}
 use Rattle.texture.specs.Cells.{across, surface_first, surface_cells, in_surface}
 use Rattle.texture.specs.Copies.{lcm, zero_bytes, bytes_per_row, rows_per_copy, block_rows_per_copy, copy_runs, clear_runs}

@@ -1,5 +1,5 @@
 -- In which runs of cells a surface is cleared: copies of whole rows from a buffer of zeros, or one pass.
-use Rattle.std.specs.Prelude.{ℕ, zero, suc, ◌+◌, ◌-◌, ◌*◌, ◌/◌, ◌%◌, min, Bool, true, false, cond, ◌&&◌, List, [], ◌∷◌, ◌++◌, ◌==◌}
+use Rattle.std.specs.Prelude.{ℕ, zero, suc, ◌+◌, ◌-◌, ◌*◌, ◌/◌, ◌%◌, min, Bool, cond, ◌&&◌, List, [], ◌∷◌, ◌++◌, ◌==◌}
 use Rattle.texture.specs.Shapes.{Shape, block_bytes, block_height}
 use Rattle.texture.specs.Cells.{across, down, slices, surface_cells, surface_first}
 use Rattle.texture.specs.declared.format.ClearMode.{ClearMode}

@@ -1,8 +1,8 @@
-use Rattle.std.proofs.Common.{◌≡◌, ℕ, ◌+◌, List, map, length, get_or, drop, sym, ap, ◌∙◌, arith}
+use Rattle.std.proofs.Common.{ℕ, ◌+◌, List, map, length, get_or, drop, sym, ap, ◌∙◌, arith}
 use Rattle.std.proofs.lemmas.List.{at_drop_more, drop_all}
 use Rattle.range_list.specs.View.{all_ends, ends}
 use Rattle.range_list.specs.declared.span.Span.{Span}
-use Rattle.rules.specs.Planning.{piece_of, all_placed, placed}
+use Rattle.rules.specs.Planning.{piece_of, all_placed}
 use Rattle.rules.specs.declared.piece.Piece.{Piece}
 use Rattle.plan.specs.Kept.{kept}
 use Rattle.plan.proofs.Order.{length_placed}

@@ -1,11 +1,11 @@
-use Rattle.std.proofs.Common.{◌≡◌, ◌+◌, ◌≤◌, true, false, [], length, get_or, sym, refl, ap, ◌∙◌, arith}
+use Rattle.std.proofs.Common.{◌≤◌, length, sym, refl, ap, ◌∙◌, arith}
 use Rattle.std.proofs.lemmas.List.{length-map}
 use Rattle.std.proofs.lemmas.Bool.{cond-true}
-use Rattle.rules.specs.Planning.{all_placed, taken, holds}
+use Rattle.rules.specs.Planning.{all_placed, holds}
 use Rattle.rules.specs.Uses.{buffer_of}
 use Rattle.plan.specs.Kept.{kept}
 use Rattle.plan.specs.Views.{view_buffer, view_buffers}
-use Rattle.plan.proofs.Books.{holds_past, drain_past, taken_past, StepFacts, step_facts}
+use Rattle.plan.proofs.Books.{holds_past, drain_past, taken_past, step_facts}
 use Rattle.plan.proofs.planning.plan_step.Goals as goal
 use Rattle.plan.proofs.planning.plan_step.Goals.{then-looks, else-looks}
 

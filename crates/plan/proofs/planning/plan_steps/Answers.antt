@@ -1,10 +1,9 @@
-use Rattle.std.proofs.Common.{◌≡◌, ◌+◌, ◌*◌, ◌≤◌, true, [], ◌++◌, length, get_or, drop, Err, sym, refl, ap, ◌∙◌, arith}
+use Rattle.std.proofs.Common.{◌≡◌, ◌+◌, true, length, get_or, drop, Err, sym, refl, ap, ◌∙◌, arith}
 use Rattle.std.proofs.lemmas.List.{at_drop_more, drop_all}
 use Rattle.fault.specs.declared.call_kind.CallKind.TheVariants.{Submit}
 use Rattle.fault.specs.Parts.{fault_of}
 use Rattle.rules.specs.Planning.{all_placed, taken, all_taken, drain_step, drain_steps, holds}
 use Rattle.rules.specs.Submission.{all_hold}
-use Rattle.rules.specs.Uses.{buffer_of}
 use Rattle.rules.specs.declared.step.Step.{Step}
 use Rattle.rules.specs.declared.step.Step.TheVariants.{BufferRead}
 use Rattle.plan.specs.Kept.{kept}

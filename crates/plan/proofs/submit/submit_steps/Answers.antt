@@ -1,13 +1,12 @@
-use Rattle.std.proofs.Common.{◌≡◌, ℕ, ◌+◌, ◌*◌, ◌<◌, ◌≤◌, Bool, true, false, cond, leb, List, [], ◌++◌, length, drop, Ok, Err, sym, refl, ap, ◌∙◌, subst, arith, length-append, length-drop}
+use Rattle.std.proofs.Common.{◌≡◌, ◌+◌, false, List, [], ◌++◌, length, Err, sym, refl, ap, ◌∙◌, subst, arith, length-drop}
 use Rattle.std.proofs.lemmas.List.{length-map}
 use Rattle.std.proofs.lemmas.Result.{err_from_is_err_and}
 use Rattle.std.proofs.lemmas.Bool.{cond-false, leb-true}
-use Rattle.device.specs.Meaning.{Followed, ran, most_cells}
+use Rattle.device.specs.Meaning.{Followed}
 use Rattle.device.specs.declared.command.Command.{Command}
 use Rattle.device.proofs.Following.{followed_none}
-use Rattle.rules.specs.Planning.{clear_of, clears_of, cells_in, join_all, planned}
-use Rattle.rules.specs.Reports.{begun}
-use Rattle.rules.specs.Submission.{all_commands, steps_verdict}
+use Rattle.rules.specs.Planning.{clear_of, clears_of, join_all, planned}
+use Rattle.rules.specs.Submission.{all_commands}
 use Rattle.rules.specs.Uses.{step_commands, step_sums, commands_before}
 use Rattle.rules.specs.Verdicts.{accepts}
 use Rattle.plan.specs.Kept.{kept}

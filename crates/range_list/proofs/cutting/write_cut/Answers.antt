@@ -1,5 +1,5 @@
 use borrow.Author.Rules.{scaled_Fits}
-use Rattle.std.proofs.Common.{◌≡◌, ℕ, ◌+◌, ◌<◌, min, max, length, get_or, ap, ◌∙◌, arith}
+use Rattle.std.proofs.Common.{◌≡◌, ◌+◌, ◌<◌, max, length, get_or, ap, ◌∙◌, arith}
 use Rattle.range_list.specs.Ranges.{clipped}
 use Rattle.range_list.specs.View.{ends}
 use Rattle.range_list.specs.declared.span.Span.{Span}

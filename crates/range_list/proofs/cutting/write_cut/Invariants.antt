@@ -1,4 +1,4 @@
-use Rattle.std.proofs.Common.{◌≡◌, map, length, take, drop}
+use Rattle.std.proofs.Common.{◌≡◌, map, take, drop}
 use Rattle.range_list.specs.Ranges.{clipped}
 use Rattle.range_list.specs.View.{all_ends}
 use Rattle.range_list.proofs.cutting.write_cut.Given as goal

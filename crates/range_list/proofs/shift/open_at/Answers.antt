@@ -1,4 +1,4 @@
-use Rattle.std.proofs.Common.{◌≡◌, ℕ, ◌+◌, ◌-◌, length, take, drop, set, sym, refl, ap, ◌∙◌, arith}
+use Rattle.std.proofs.Common.{◌≡◌, ℕ, ◌+◌, ◌-◌, length, take, drop, sym, refl, ap, ◌∙◌, arith}
 use Rattle.range_list.proofs.Shifts.{up_none, up_take, up_drop, up_all}
 use Rattle.range_list.proofs.shift.open_at.Goals as goal
 

@@ -1,4 +1,4 @@
-use Rattle.std.proofs.Common.{◌≡◌, ◌+◌, ◌≤◌, length, take, drop}
+use Rattle.std.proofs.Common.{◌≡◌, ◌+◌, ◌≤◌, take, drop}
 use Rattle.range_list.proofs.shift.open_at.Given as goal
 
 abbrev pub invariant-loop-t : goal.invariant-loop-t

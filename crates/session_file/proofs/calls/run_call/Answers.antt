@@ -1,7 +1,6 @@
-use Rattle.std.proofs.Common.{◌≡◌, ◌≤◌, ◌++◌, length, drop, vec_items, sym, ap, ◌∙◌, subst, arith, length-append}
+use Rattle.std.proofs.Common.{◌≡◌, ◌++◌, length, drop, vec_items, ap, ◌∙◌, arith, length-append}
 use Rattle.device.specs.Journal.{written}
 use Rattle.planner.specs.View.{view}
-use Rattle.session_file.specs.Session.{call_lines}
 use Rattle.session_file.specs.Standing.{performed}
 use Rattle.session_file.proofs.Listed.{same_lines}
 use Rattle.session_file.proofs.Moments.{since_commands as since-given, moment_after}

@@ -1,8 +1,7 @@
-use Rattle.std.proofs.Common.{◌≡◌, ℕ, suc, ◌+◌, ◌-◌, ◌≤◌, List, ◌++◌, length, drop, Some, None, vec_items, sym, ap, ◌∙◌, subst, arith, length-drop}
+use Rattle.std.proofs.Common.{◌≡◌, ◌+◌, ◌-◌, ◌≤◌, ◌++◌, length, drop, Some, None, vec_items, sym, ap, ◌∙◌, arith, length-drop}
 use Rattle.std.proofs.lemmas.List.{take_rest}
 use Rattle.planner.specs.View.{view}
 use Rattle.session_file.specs.Decode.{call_of}
-use Rattle.session_file.specs.Session.{lines_from}
 use Rattle.session_file.specs.Standing.{moment_of, performed}
 use Rattle.session_file.proofs.Appends.{written_all}
 use Rattle.session_file.proofs.Moments.{performed_done, still_made}

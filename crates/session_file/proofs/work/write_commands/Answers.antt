@@ -1,6 +1,6 @@
-use Rattle.std.proofs.Common.{◌++◌, drop, vec_items, refl, arith}
+use Rattle.std.proofs.Common.{refl}
 use Rattle.std.proofs.lemmas.List.{at_drop_more, at_drop_all}
-use Rattle.session_file.specs.Lines.{command_line, command_lines}
+use Rattle.session_file.specs.Lines.{command_lines}
 use Rattle.session_file.proofs.Appends.{written_more, written_all}
 use Rattle.session_file.proofs.work.write_commands.Goals as goal
 

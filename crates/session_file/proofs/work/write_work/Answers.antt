@@ -1,8 +1,8 @@
-use Rattle.std.proofs.Common.{◌≡◌, ℕ, ◌+◌, ◌-◌, ◌<◌, ◌≤◌, min, List, [], ◌∷◌, ◌++◌, length, get_or, take, drop, vec_items, sym, refl, ap, ◌∙◌, append_assoc, arith}
+use Rattle.std.proofs.Common.{◌≡◌, ◌+◌, ◌++◌, length, get_or, drop, vec_items, sym, refl, ap, ◌∙◌, arith}
 use Rattle.std.proofs.lemmas.List.{take_rest}
 use Rattle.session_file.specs.Lines.{command_lines, sum_line}
 use Rattle.session_file.specs.Work.{reads_of, worked}
-use Rattle.session_file.proofs.Appends.{written_more, written_all}
+use Rattle.session_file.proofs.Appends.{written_more}
 use Rattle.session_file.proofs.Pairs.{reads_more, reads_all}
 use Rattle.session_file.proofs.work.write_work.Goals as goal
 

@@ -1,4 +1,4 @@
-use Rattle.std.proofs.Common.{◌≡◌, ℕ, ◌%◌, ◌<◌, sym, refl, subst, arith}
+use Rattle.std.proofs.Common.{◌≡◌, ◌%◌, sym, subst, arith}
 use native.Mathlib.Nat.{mod_self, zero-mod}
 use Rattle.texture.proofs.Multiples.{divides_rest, divides_both}
 use Rattle.texture.proofs.alignment.common_divisor.Goals as goal

@@ -1,4 +1,4 @@
-use Rattle.std.proofs.Common.{◌≡◌, sym}
+use Rattle.std.proofs.Common.{sym}
 use Rattle.init_tracker.proofs.Owed.{owing_sound, owing_count, owing_few}
 use Rattle.init_tracker.proofs.buffer.BufferInitTracker.count.Goals as goal
 

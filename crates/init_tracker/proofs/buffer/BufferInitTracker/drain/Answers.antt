@@ -1,4 +1,4 @@
-use Rattle.std.proofs.Common.{◌≡◌, ◌≤◌, length, take, sym, refl, ap, ◌∙◌, subst, arith, MatchResult}
+use Rattle.std.proofs.Common.{◌≡◌, length, take, sym, refl, ap, ◌∙◌, subst, arith, MatchResult}
 use Rattle.range_list.specs.Ranges.{Sound, drained}
 use Rattle.range_list.specs.View.{all_ends, view, Declined}
 use Rattle.std.proofs.lemmas.Result.{MatchResult-weaker}

@@ -1,4 +1,4 @@
-use Rattle.std.proofs.Common.{◌≡◌, sym}
+use Rattle.std.proofs.Common.{sym}
 use Rattle.init_tracker.proofs.Layered.{layers_sound, layers_count, layers_few}
 use Rattle.init_tracker.proofs.layer.LayerInitTracker.count.Goals as goal
 

@@ -1,4 +1,4 @@
-use Rattle.std.proofs.Common.{◌≡◌, length, sym, refl, ap, ◌∙◌, subst, arith}
+use Rattle.std.proofs.Common.{length, sym, refl, ap, ◌∙◌, subst, arith}
 use Rattle.range_list.specs.Ranges.{Sound, added}
 use Rattle.range_list.specs.View.{view}
 use Rattle.init_tracker.proofs.Owed.{over_places}

@@ -1,4 +1,4 @@
-use Rattle.std.proofs.Common.{◌≡◌, length, sym, refl, ap, ◌∙◌, subst, arith}
+use Rattle.std.proofs.Common.{length, sym, refl, ap, ◌∙◌, subst, arith}
 use Rattle.range_list.specs.Ranges.{Sound, drained}
 use Rattle.range_list.specs.View.{view}
 use Rattle.range_list.proofs.Laws.{sound_drained}

@@ -1,4 +1,4 @@
-use Rattle.std.proofs.Common.{◌≡◌, Ok, Err, sym, refl, ap, ◌∙◌, arith}
+use Rattle.std.proofs.Common.{Err, sym, refl, ap, ◌∙◌, arith}
 use Rattle.rules.specs.Lists.{next_list}
 use Rattle.rules.specs.Verdicts.{told}
 use Rattle.planner.specs.View.{view}

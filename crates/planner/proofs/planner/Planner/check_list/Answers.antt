@@ -1,6 +1,5 @@
 use Rattle.std.proofs.Common.{Err, sym, refl, ap, ◌∙◌, arith}
 use Rattle.fault.specs.declared.call_kind.CallKind.TheVariants.{Submit as Submitting}
-use Rattle.rules.specs.Verdicts.{told}
 use Rattle.rules.specs.declared.list_state.ListCall.TheVariants.{Submit}
 use Rattle.plan.proofs.Books.{never}
 use Rattle.planner.specs.View.{view}

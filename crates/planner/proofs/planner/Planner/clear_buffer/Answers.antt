@@ -1,4 +1,4 @@
-use Rattle.std.proofs.Common.{◌≡◌, ◌+◌, length, Ok, Err, sym, refl, ap, ◌∙◌}
+use Rattle.std.proofs.Common.{◌≡◌, ◌+◌, length, Err, sym, ap, ◌∙◌}
 use Rattle.fault.specs.declared.call_kind.CallKind.TheVariants.{ClearBuffer as Clearing}
 use Rattle.rules.specs.Lists.{allows}
 use Rattle.rules.specs.State.{buffer_at, list_at, put_list}

@@ -1,9 +1,9 @@
-use Rattle.std.proofs.Common.{◌≡◌, Bool, true, false, cond, not, get_or, set, Ok, Err, sym, refl, ap, ◌∙◌, arith}
+use Rattle.std.proofs.Common.{not, get_or, Ok, Err, sym, refl, ap, ◌∙◌, arith}
 use Rattle.std.proofs.lemmas.Bool.{cond-true, cond-false}
 use Rattle.fault.specs.declared.call_kind.CallKind.TheVariants.{Destroy}
 use Rattle.fault.specs.declared.refusal.Refusal.TheVariants.{Destroyed}
 use Rattle.rules.specs.Making.{destroy_verdict, destroyed_buffer}
-use Rattle.rules.specs.State.{buffer_at, with_buffers}
+use Rattle.rules.specs.State.{buffer_at}
 use Rattle.rules.specs.Verdicts.{accepts, told}
 use Rattle.planner.specs.View.{view}
 use Rattle.planner.proofs.Viewed.{buffer_at_lem, buffer_put, destroy_is}

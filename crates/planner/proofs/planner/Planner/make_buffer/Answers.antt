@@ -1,8 +1,8 @@
-use Rattle.std.proofs.Common.{◌≡◌, ℕ, ◌+◌, Bool, true, false, cond, eqb, List, Ok, Err, sym, refl, ap, ◌∙◌, arith}
+use Rattle.std.proofs.Common.{◌≡◌, ℕ, ◌+◌, Bool, true, eqb, List, Ok, sym, refl, ap, ◌∙◌, arith}
 use Rattle.std.proofs.lemmas.Bool.{cond-true}
 use Rattle.std.proofs.lemmas.Bool.Decides.{nat_tests}
 use Rattle.rules.specs.Making.{make_verdict, numbered, fresh_buffer}
-use Rattle.rules.specs.State.{Buffer, with_buffers}
+use Rattle.rules.specs.State.{Buffer}
 use Rattle.rules.specs.Verdicts.{accepts}
 use Rattle.planner.specs.View.{view}
 use Rattle.planner.proofs.Viewed.{buffer_put}

@@ -1,11 +1,9 @@
-use Rattle.std.proofs.Common.{◌≡◌, length, get_or, Ok, Err, sym, refl, ap, ◌∙◌, arith}
+use Rattle.std.proofs.Common.{length, Err, sym, refl, ap, ◌∙◌, arith}
 use Rattle.fault.specs.Parts.{fault_of}
-use Rattle.rules.specs.Lists.{allows}
 use Rattle.rules.specs.State.{list_at}
 use Rattle.rules.specs.Steps.{no_place, stepped_list}
 use Rattle.rules.specs.Uses.{start_of, end_of}
-use Rattle.rules.specs.Verdicts.{and_then, told, known_buffer, known_list}
-use Rattle.rules.specs.declared.list_state.ListCall.TheVariants.{Step as Record}
+use Rattle.rules.specs.Verdicts.{told, known_buffer}
 use Rattle.planner.specs.View.{view}
 use Rattle.planner.proofs.Viewed.{list_at_lem, list_put, list_stays, step_verdict_lem, step_unknown}
 use Rattle.planner.proofs.planner.Planner.record.Goals as goal

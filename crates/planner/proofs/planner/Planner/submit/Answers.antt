@@ -1,4 +1,4 @@
-use Rattle.std.proofs.Common.{◌≡◌, ◌<◌, true, List, length, get_or, Ok, Err, sym, refl, ap, ◌∙◌, subst, arith}
+use Rattle.std.proofs.Common.{◌≡◌, ◌<◌, List, Err, sym, refl, ap, ◌∙◌, subst, arith}
 use Rattle.std.proofs.lemmas.List.{length-set}
 use Rattle.std.proofs.lemmas.Result.{err_from_is_err_and}
 use Rattle.device.specs.Meaning.{Followed}
@@ -6,11 +6,11 @@ use Rattle.device.specs.declared.command.Command.{Command}
 use Rattle.device.proofs.Following.{followed_none}
 use Rattle.rules.specs.Planning.{drain_steps}
 use Rattle.rules.specs.State.{idle_list, list_at, put_list, with_buffers}
-use Rattle.rules.specs.Submission.{all_commands, reported, steps_verdict, submit_answer}
+use Rattle.rules.specs.Submission.{all_commands, reported, steps_verdict}
 use Rattle.rules.specs.Verdicts.{accepts, and_then}
 use Rattle.plan.specs.Views.{view_buffers}
 use Rattle.planner.specs.View.{view}
-use Rattle.planner.proofs.Submitted.{Kept, declined, Done, accepted, buffers_long}
+use Rattle.planner.proofs.Submitted.{declined, accepted, buffers_long}
 use Rattle.planner.proofs.Viewed.{list_at_lem, list_put}
 use Rattle.planner.proofs.planner.Planner.submit.Goals as goal
 

@@ -1,4 +1,4 @@
-use Rattle.std.proofs.Common.{◌≡◌, ◌≤◌, length, ◌∙◌, arith}
+use Rattle.std.proofs.Common.{◌∙◌, arith}
 use Rattle.range_list.specs.View.{view}
 use Rattle.range_list.proofs.Steps.{view_length, close_held}
 use Rattle.range_list.proofs.list.InitTracker.close.Goals as goal

@@ -1,4 +1,4 @@
-use Rattle.std.proofs.Common.{◌≡◌, ℕ, ◌<◌, ◌≤◌, List, length, sym, refl, ap, ◌∙◌, subst, arith, MatchResult}
+use Rattle.std.proofs.Common.{◌≡◌, ◌<◌, sym, ap, ◌∙◌, subst, arith, MatchResult}
 use Rattle.range_list.specs.Ranges.{Sound, closed, drained}
 use Rattle.range_list.specs.View.{view, Declined}
 use Rattle.range_list.proofs.Laws.{drained_closed, sound_drained}

@@ -1,8 +1,8 @@
-use Rattle.std.proofs.Common.{◌≡◌, ℕ, ◌<◌, ◌≤◌, [], ◌∷◌, length, set, sym, refl, ap, ◌∙◌, arith}
+use Rattle.std.proofs.Common.{◌<◌, [], ◌∷◌, sym, refl, ap, ◌∙◌, arith}
 use Rattle.std.proofs.lemmas.List.{length-set, drop-set-lt}
 use Rattle.range_list.specs.View.{ends}
 use Rattle.range_list.specs.declared.span.Span.{Span}
-use Rattle.range_list.proofs.Laws.{part_some, part_none}
+use Rattle.range_list.proofs.Laws.{part_some}
 use Rattle.range_list.proofs.Steps.{first_set}
 use Rattle.range_list.proofs.Orders.{is_before}
 use Rattle.range_list.proofs.list.InitTracker.new.Goals as goal

@@ -1,4 +1,4 @@
-use Rattle.std.proofs.Common.{◌≡◌, ◌+◌, ◌-◌, ◌<◌, map, length, take, refl, ap, ◌∙◌, arith, length-take, rules}
+use Rattle.std.proofs.Common.{◌≡◌, ◌-◌, map, length, take, refl, ap, ◌∙◌, arith, length-take}
 use borrow.Rule.Slice.PartMut.{post_of}
 use Rattle.range_list.specs.View.{ends}
 use Rattle.range_list.proofs.Moves.{room, map_removed}

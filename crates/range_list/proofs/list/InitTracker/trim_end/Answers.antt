@@ -1,8 +1,7 @@
 use borrow.Author.Rules.{scaled_Fits}
-use Rattle.std.proofs.Common.{◌≡◌, ◌+◌, ◌-◌, ◌<◌, ◌≤◌, ◌++◌, map, length, get_or, take, drop, set, sym, refl, ap, ◌∙◌, arith}
+use Rattle.std.proofs.Common.{◌≡◌, ◌+◌, ◌<◌, ◌≤◌, ◌++◌, map, length, get_or, take, drop, sym, refl, ap, ◌∙◌, arith}
 use Rattle.std.proofs.lemmas.List.{length-set, length-map, length-take-le, drop-set-lt, append-nil}
 use Rattle.range_list.specs.View.{ends}
-use Rattle.range_list.specs.Ranges.{left_of}
 use Rattle.range_list.proofs.Steps.{view_set, view_at, end_kept, end_none}
 use Rattle.range_list.proofs.Orders.{is_before, is_after}
 use Rattle.range_list.proofs.list.InitTracker.trim_end.Goals as goal

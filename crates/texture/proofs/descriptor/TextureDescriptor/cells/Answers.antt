@@ -1,4 +1,4 @@
-use Rattle.std.proofs.Common.{◌≡◌, ◌≤◌, sym, subst}
+use Rattle.std.proofs.Common.{◌≤◌, sym, subst}
 use Rattle.texture.specs.Described.{shape_of}
 use Rattle.texture.proofs.Sides.{cells_few}
 use Rattle.texture.proofs.descriptor.TextureDescriptor.cells.Goals as goal

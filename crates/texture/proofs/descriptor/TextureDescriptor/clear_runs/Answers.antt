@@ -1,6 +1,5 @@
-use Rattle.std.proofs.Common.{◌≡◌, ℕ, ◌+◌, ◌≤◌, true, leb, List, [], ◌∷◌, sym, ap, ◌∙◌, ap₂, arith}
+use Rattle.std.proofs.Common.{◌≡◌, ℕ, ◌≤◌, true, leb, [], ◌∷◌, sym, ap, ◌∙◌, ap₂, arith}
 use Rattle.std.proofs.lemmas.Bool.{and_from, le-leb}
-use Rattle.texture.specs.Shapes.{Shape}
 use Rattle.texture.specs.Cells.{across, down, slices, surface_cells, surface_first}
 use Rattle.texture.specs.Copies.{block_rows_per_copy, copy_runs, slice_runs, by_mode, clear_runs}
 use Rattle.texture.specs.Runs.{pitch_fits}

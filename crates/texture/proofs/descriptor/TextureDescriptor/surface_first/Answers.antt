@@ -1,7 +1,6 @@
-use Rattle.std.proofs.Common.{◌≡◌, ◌+◌, ◌*◌, ◌<◌, ◌≤◌, true, ltb, sym, ap, ◌∙◌, arith}
+use Rattle.std.proofs.Common.{◌+◌, ◌*◌, ◌≤◌, ltb, sym, ap, ◌∙◌, arith}
 use Rattle.std.proofs.lemmas.Bool.{and_parts, ltb-true}
 use Rattle.texture.specs.Shapes.{layers_of}
-use Rattle.texture.specs.Cells.{surface_cells, surface_first, cells_of}
 use Rattle.texture.specs.Described.{shape_of}
 use Rattle.texture.proofs.Sides.{cells_few}
 use Rattle.texture.proofs.Tiles.{surface_in_cells}

@@ -1,4 +1,4 @@
-use Rattle.std.proofs.Common.{◌≡◌, ◌/◌, ◌^◌, ◌<◌, ◌≤◌, max, sym, ap, arith}
+use Rattle.std.proofs.Common.{max, sym, ap, arith}
 use Rattle.texture.proofs.Halved.{nothing_left}
 use Rattle.texture.proofs.descriptor.cells.halved.Goals as goal
 

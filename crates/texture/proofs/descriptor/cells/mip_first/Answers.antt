@@ -1,4 +1,4 @@
-use Rattle.std.proofs.Common.{◌≡◌, suc, ◌+◌, ◌*◌, ◌<◌, ◌≤◌, sym, ap, ◌∙◌, subst, ap₂, add-one, arith}
+use Rattle.std.proofs.Common.{◌≡◌, ◌+◌, ◌*◌, sym, ap, ◌∙◌, ap₂, add-one, arith}
 use Rattle.texture.specs.Shapes.{layers_of}
 use Rattle.texture.specs.Cells.{surface_cells, mip_first}
 use Rattle.texture.specs.Described.{shape_of}

@@ -1,4 +1,4 @@
-use Rattle.std.proofs.Common.{◌≡◌, ◌*◌, ◌≤◌, ◌∙◌, ap₂, mul_assoc, arith}
+use Rattle.std.proofs.Common.{◌≡◌, ◌*◌, ◌∙◌, ap₂, mul_assoc, arith}
 use Rattle.texture.specs.Cells.{surface_cells}
 use Rattle.texture.specs.Described.{shape_of}
 use Rattle.texture.proofs.Sides.{down_some}

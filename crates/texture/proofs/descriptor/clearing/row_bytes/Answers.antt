@@ -1,4 +1,4 @@
-use Rattle.std.proofs.Common.{◌≡◌, ◌*◌, ◌<◌, ◌≤◌, ap, ◌∙◌, mul-le-mul, arith}
+use Rattle.std.proofs.Common.{◌≡◌, ◌*◌, ◌≤◌, ap, ◌∙◌, mul-le-mul, arith}
 use Rattle.texture.specs.Shapes.{block_bytes}
 use Rattle.texture.specs.Described.{shape_of}
 use Rattle.texture.specs.Copies.{lcm}

@@ -1,4 +1,4 @@
-use Rattle.std.proofs.Common.{◌≡◌, ◌-◌, ◌/◌, ◌^◌, ◌<◌, ◌≤◌, true, false, ◌&&◌, leb, sym, ⊎_elim, arith}
+use Rattle.std.proofs.Common.{◌-◌, ◌/◌, ◌^◌, leb, sym, ⊎_elim, arith}
 use Rattle.std.proofs.lemmas.Bool.{lt-leb, and_left}
 use Rattle.texture.proofs.Halved.{too_many}
 use Rattle.texture.proofs.descriptor.make.halves.Goals as goal

@@ -1,4 +1,4 @@
-use Rattle.std.proofs.Common.{◌≡◌, ◌+◌, ◌*◌, length, sym, ◌∙◌, ap₂, arith, length-append}
+use Rattle.std.proofs.Common.{◌+◌, ◌*◌, sym, ◌∙◌, ap₂, arith, length-append}
 use Rattle.texture.specs.Copies.{runs_down, slice_runs}
 use Rattle.texture.proofs.Walks.{runs_count, slices_count}
 use Rattle.texture.proofs.walk.SurfaceRuns.count.Goals as goal

@@ -1,4 +1,4 @@
-use Rattle.std.proofs.Common.{◌≡◌, ◌≤◌, arith}
+use Rattle.std.proofs.Common.{arith}
 use Rattle.texture.proofs.Steps.{walked_on}
 use Rattle.texture.proofs.walk.step.in_slice.Goals as goal
 
