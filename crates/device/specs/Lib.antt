@@ -5,3 +5,4 @@ pub mod Journal
 pub mod Rows
 pub mod ByteMemory
 pub mod Extents
+pub mod Continuing

@@ -1,8 +1,7 @@
 // What a range list asks of the indexes that its ranges lie between: a position, and an order that follows it.
 #![tactic(auto)]
 
-ghost use Rattle.std.specs.Prelude.{◌≡◌, ℕ, ◌+◌, ◌<◌, max, min, eqb, ltb};
-ghost use Rattle.std.proofs.Common.{rules};
+ghost use Rattle.std.specs.Prelude.{◌≡◌, ℕ, ◌+◌, ◌<◌, max, min, ◌==◌, nat_lt};
 
 pub trait Index: Copy {
     // where an index stands, counted from the least
@@ -14,7 +13,7 @@ pub trait Index: Copy {
 
     // Whether this index stands before the other.
     fn before(self, other: Self) -> bool
-        ensures { result ≡ ltb (position self) (position other) };
+        ensures { result ≡ nat_lt (position self) (position other) };
 
     // equal positions mean equal indexes
     ghost apart: { (a b : Self) → position a ≡ position b → a ≡ b };
@@ -32,7 +31,7 @@ pub trait Stepping: Index {
 impl Index for u64 {
     ghost position = { λ x. x };
 
-    ghost apart = { Prim.search rules };
+    ghost apart = { λ a b same. same };
 
     // The first byte.
     fn least() -> u64 {
@@ -49,7 +48,7 @@ impl Index for u64 {
 impl Index for u32 {
     ghost position = { λ x. x };
 
-    ghost apart = { Prim.search rules };
+    ghost apart = { λ a b same. same };
 
     // The first layer.
     fn least() -> u32 {
@@ -85,7 +84,7 @@ pub fn earlier<I: Index>(a: I, b: I) -> I
 
 // Whether two indexes have one position.
 pub fn same<I: Index>(a: I, b: I) -> bool
-    ensures { result ≡ eqb (I.Index.position a) (I.Index.position b) }
+    ensures { result ≡ (I.Index.position a == I.Index.position b) }
 {
     !a.before(b) && !b.before(a)
 }

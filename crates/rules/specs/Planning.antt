@@ -1,5 +1,5 @@
 -- Which clears a list of steps can't be spared: uses drain the books in step order, and what reads take is cleared.
-use Rattle.std.specs.Prelude.{ℕ, ◌+◌, ◌-◌, Bool, cond, ◌&&◌, ◌||◌, List, [], ◌∷◌, ◌++◌, map, length, get_or, ◌==◌, nat_le, nat_lt, slice_index_or, slice_set}
+use Rattle.std.specs.Prelude.{ℕ, ◌+◌, ◌-◌, Bool, cond, ◌&&◌, ◌||◌, List, [], ◌∷◌, ◌++◌, map, length, ◌==◌, nat_le, nat_lt, slice_index_or, slice_set}
 use Rattle.device.specs.declared.command.Command.{Command}
 use Rattle.device.specs.declared.command.CommandKind.TheVariants.{Clear}
 use Rattle.range_list.specs.Ranges.{drained, pieces}
@@ -31,7 +31,7 @@ piece_of n r = record { buffer = n; start = r.0; end = r.1 }
 -- what a read takes: the ranges that owe within what it covers
 abbrev pub taken : List Buffer → Step → List Piece
 taken bs s =
-    cond (looks s) (map (piece_of (buffer_of s)) (pieces (start_of s) (cover_end s) (get_or bs (buffer_of s) no_buffer).owes)) []
+    cond (looks s) (map (piece_of (buffer_of s)) (pieces (start_of s) (cover_end s) (slice_index_or bs (buffer_of s) no_buffer).owes)) []
 
 -- the pieces that the reads of a list take, in step order, before they are joined
 abbrev pub all_taken : List Buffer → List Step → List Piece

@@ -1,10 +1,8 @@
 // A journal as a device: it takes a command by writing it down.
-ghost use Rattle.std.specs.Prelude.{◌≡◌, ◌++◌, slice_index, refl};
-ghost use Rattle.std.proofs.Common.{sym, ap, ◌∙◌, append_assoc};
-ghost use Rattle.device.specs.Journal.{Continued, meaning_of};
+ghost use Rattle.std.specs.Prelude.{◌≡◌, slice_index};
+ghost use Rattle.device.specs.Continuing.{continued_none, continued_more};
 ghost use Rattle.device.specs.Extents.{extent_within};
-ghost use Rattle.std.proofs.lemmas.List.{append-nil};
-ghost use Rattle.device.specs.Journal as SpecsJournal;
+ghost use Rattle.device.specs.Journal.{Continued, meaning_of};
 
 use crate::journal::Journal;
 use crate::journal::sweep::sum_range;
@@ -25,15 +23,9 @@ impl Device for Journal {
 
     ghost bounded = { λ d s. extent_within d.extents s d.bounded };
 
-    ghost none = { λ d. record { writes = sym (append-nil (SpecsJournal.written d)); begins = refl; reaches = refl; room = refl } };
+    ghost none = { continued_none };
 
-    ghost more = { λ d e f cs more p q.
-        record {
-          writes = q.writes ∙ ap (λ xs. xs ++ more) p.writes ∙ append_assoc (SpecsJournal.written d) cs more;
-          begins = q.begins ∙ p.begins;
-          reaches = q.reaches ∙ p.reaches;
-          room = q.room ∙ p.room;
-        } };
+    ghost more = { continued_more };
 
     // Writes the command down after those before it, or declines it and writes nothing.
     fn take(&mut self, c: Command) -> bool {

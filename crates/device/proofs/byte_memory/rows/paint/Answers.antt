@@ -3,7 +3,7 @@ use Rattle.std.proofs.Common.{◌+◌, ◌&&◌, ltb, leb, vec_items, refl, arit
 use Rattle.device.specs.Commands.{byte_of}
 use Rattle.device.specs.Rows.{byte_at, length_at}
 use Rattle.device.proofs.Cells.{painted_nothing}
-use Rattle.device.specs.Extents.{fits_nothing, fits_within}
+use Rattle.device.proofs.Extents.{fits_nothing, fits_within}
 use Rattle.device.proofs.Slots.{byte_put, length_here, length_past, lengths_set}
 use Rattle.device.proofs.byte_memory.rows.paint.Goals as goal
 

@@ -5,7 +5,7 @@ use Rattle.device.specs.Journal.{meaning_of}
 use Rattle.device.specs.Meaning.{ran}
 use Rattle.device.specs.declared.command.Command.{Command}
 use Rattle.device.proofs.Cells.{ran_push}
-use Rattle.device.specs.Extents.{allowed_since}
+use Rattle.device.proofs.Extents.{allowed_since}
 use Rattle.device.proofs.journal.taking.JournalDevice.take.Goals as goal
 
 pub returns : goal.returns

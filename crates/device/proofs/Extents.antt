@@ -1,0 +1,22 @@
+-- Commands within extents.
+use Rattle.std.specs.Prelude.{◌≡◌, ℕ, zero, suc, ◌+◌, ◌<◌, ◌≤◌, true, ◌||◌, List, [], ◌∷◌, ◌==◌, ◌≢◌, nat_le, nat_lt, slice_index}
+use Rattle.std.proofs.Common.{sym, ap, ◌∙◌, arith}
+use Rattle.std.proofs.lemmas.Bool.{leb-true, lt-ltb, and_from, and_parts}
+use Rattle.std.proofs.lemmas.Bool.Decides.{nat_tests}
+use Rattle.device.specs.Commands.{fits_in}
+use Rattle.device.specs.Meaning.{Meaning, all_within, allowed, most_cells}
+use Rattle.device.specs.declared.command.Command.{Command}
+
+-- a command that fits its slot's extent is allowed where some allowance is left
+pub allowed_since : (m : Meaning) (c : Command) (e : ℕ) → 0 < m.allowance → e ≡ m.extent c.slot → true ≡ fits_in (λ _. e) c → true ≡ allowed m c
+allowed_since m c e some is fits =
+    let here : fits_in (λ _. e) c ≡ fits_in m.extent c = ap (λ (n : ℕ). (c.count == 0) || nat_le (c.first + c.count) n) is in
+    sym (and_from (nat_lt 0 m.allowance) (fits_in m.extent c) (lt-ltb 0 m.allowance some) (sym (fits ∙ here)))
+
+-- a command that fits and is not empty ends within its slot
+pub fits_within : (extent : ℕ → ℕ) (c : Command) → fits_in extent c ≡ true → (c.count ≢ 0) → c.first + c.count ≤ extent c.slot
+fits_within extent c fits some = grind (arith, nat_tests)
+
+-- a command that fits a slot of no cells is empty
+pub fits_nothing : (extent : ℕ → ℕ) (c : Command) → fits_in extent c ≡ true → 0 ≡ extent c.slot → c.count ≡ 0
+fits_nothing extent c fits none = grind (arith, nat_tests)
