@@ -3,9 +3,9 @@
 set -u
 root="$(cd "$(dirname "$0")/../.." && pwd)"
 folder="${1:?usage: compare.sh DIR}"
-program="$root/target/bin/session"
+program="$root/crates/session/out/session"
 if [ ! -x "$program" ]; then
-    echo "there is no $program: build it with 'rt check session'" >&2
+    echo "there is no $program: build it with './session samples/first.session'" >&2
     exit 1
 fi
 same=0

@@ -1,10 +1,10 @@
 -- Commands within extents.
-use Rattle.std.specs.Prelude.{◌≡◌, ℕ, zero, suc, ◌+◌, ◌<◌, ◌≤◌, true, ◌||◌, List, [], ◌∷◌, ◌==◌, ◌≢◌, nat_le, nat_lt, slice_index}
+use Rattle.std.specs.Prelude.{◌≡◌, ℕ, ◌+◌, ◌<◌, ◌≤◌, true, ◌||◌, ◌==◌, ◌≢◌, nat_le, nat_lt}
 use Rattle.std.proofs.Common.{sym, ap, ◌∙◌, arith}
-use Rattle.std.proofs.lemmas.Bool.{leb-true, lt-ltb, and_from, and_parts}
+use Rattle.std.proofs.lemmas.Bool.{lt-ltb, and_from}
 use Rattle.std.proofs.lemmas.Bool.Decides.{nat_tests}
 use Rattle.device.specs.Commands.{fits_in}
-use Rattle.device.specs.Meaning.{Meaning, all_within, allowed, most_cells}
+use Rattle.device.specs.Meaning.{Meaning, allowed}
 use Rattle.device.specs.declared.command.Command.{Command}
 
 -- a command that fits its slot's extent is allowed where some allowance is left
