@@ -1,6 +1,2 @@
 // The rules of every call once textures join, the ledger of what owes a clear, and the law over runs of calls.
 #![tactic(auto)]
-
-ghost use Rattle.law.specs.Uses.{cells_named};
-
-pub fn stands() {}

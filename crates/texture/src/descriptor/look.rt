@@ -60,10 +60,9 @@ impl TextureDescriptor {
     pub fn depth(self) -> u32
         ensures { result ≡ depth_of (shape_of self) }
     {
-        if self.dimension.is_flat() {
-            1
-        } else {
-            self.count
+        match self.dimension {
+            Dimension::D2 => 1,
+            Dimension::D3 => self.count,
         }
     }
 }
