@@ -1,8 +1,9 @@
 -- Rows of bytes, one of which is read or replaced.
-use Rattle.std.proofs.Common.{◌≡◌, ℕ, ◌+◌, ◌<◌, ◌≤◌, Bool, cond, ◌&&◌, eqb, leb, ◌≢◌, List, [], map, length, get_or, drop, set, vec_items, vec_len, sym, ap, ◌∙◌, subst, ⊎_elim, arith}
-use Rattle.std.proofs.lemmas.List.{at_drop_more, get_or-map, get_or_past, get_or-set_other, get_or-set_same, length-map, map-set, set-get_or}
+use Rattle.std.proofs.Common.{◌≡◌, ℕ, ◌+◌, ◌<◌, ◌≤◌, Bool, cond, ◌&&◌, eqb, leb, ◌≢◌, List, [], ◌++◌, map, length, get_or, take, drop, set, vec_items, vec_len, sym, ap, ◌∙◌, subst, ⊎_elim, arith}
+use Rattle.std.proofs.Math.Seq.{take-append_seam}
+use Rattle.std.specs.Vec.{with_items}
+use Rattle.std.proofs.lemmas.List.{get_or-map, get_or_past, get_or-set_other, get_or-set_same, length-map, map-set, set-get_or}
 use Rattle.std.proofs.lemmas.Bool.{cases_eq, eq-eqb, ne_eqb}
-use Rattle.device.specs.Meaning.{all_within, most_cells}
 use Rattle.device.specs.Rows.{Row, byte_at, length_at, lengths}
 
 -- past the rows a slot has no length
@@ -56,12 +57,7 @@ module _ (rows : List Row) (p : ℕ) (v : Row) (less : p < length rows) (is : v 
         (λ other. subst goal (sym (ne_eqb s p other)) (byte_set_other s i other))
         (cases_eq s p)
 
--- the row at hand, and those after it
-pub within_more :
-    (rows : List Row) (k : ℕ) (row : Row)
-    → k < length rows
-    → row ≡ get_or rows k row
-    → all_within (lengths (drop k rows)) ≡ (leb (vec_len row) most_cells && all_within (lengths (drop (k + 1) rows)))
-within_more rows k row less is =
-    at_drop_more (λ (xs : List Row). all_within (lengths xs)) rows k row less
-    ∙ ap (λ (x : Row). leb (vec_len x) most_cells && all_within (lengths (drop (k + 1) rows))) (sym is)
+-- a row whose bytes are all written holds what was written
+pub items_written : (v : Row) (xs : List ℕ) → length xs ≡ vec_len v → vec_items (with_items v xs) ≡ xs
+items_written v xs e =
+    subst (λ (n : ℕ). take n (xs ++ drop (length xs) (vec_items v)) ≡ xs) e (take-append_seam xs (drop (length xs) (vec_items v)))

@@ -1,5 +1,7 @@
 -- Sums over ranges of cells: none, one more, two parts, equal cells, and cells that are all alike.
-use Rattle.std.proofs.Common.{◌≡◌, ℕ, zero, suc, ◌+◌, ◌-◌, ◌*◌, ◌<◌, ◌≤◌, sym, refl, ap, ◌∙◌, mul-le-mul_right, mul-zero, mul-suc, arith}
+use Rattle.std.proofs.Common.{List, ◌∷◌, take, drop, length, get_or, sum, ◌≡◌, ℕ, zero, suc, ◌+◌, ◌-◌, ◌*◌, ◌<◌, ◌≤◌, sym, refl, ap, ◌∙◌, mul-le-mul_right, mul-zero, mul-suc, arith}
+use Rattle.std.proofs.Math.Seq.{drop-cons}
+use Rattle.std.proofs.lemmas.List.Sums.{sum_by-cons}
 use Rattle.device.specs.Meaning.{summed}
 
 -- no cells sum to nothing
@@ -75,3 +77,14 @@ summed_more f first at next v s le up so is alike =
 -- a byte's product is at most 255 times the count
 pub byte_product : (v n : ℕ) → v ≤ 255 → v * n ≤ 255 * n
 byte_product v n h = mul-le-mul_right n h
+
+-- the bytes of a part of a row sum to the sum of its cells
+pub sum_part : (xs : List ℕ) (a n : ℕ) → a + n ≤ length xs → sum (take n (drop a xs)) ≡ summed (λ i. get_or xs i 0) a n
+sum_part xs a zero h = sym (summed_none (λ i. get_or xs i 0) a)
+sum_part xs a (suc n) h =
+    let f : ℕ → ℕ = λ i. get_or xs i 0 in
+    let next : suc a ≡ a + 1 = omega arith in
+    let parts : drop a xs ≡ f a ∷ drop (a + 1) xs = drop-cons xs a 0 (omega arith) ∙ ap (λ (k : ℕ). f a ∷ drop k xs) next in
+    let more : sum (take (suc n) (drop a xs)) ≡ f a + sum (take n (drop (a + 1) xs)) = ap (λ (ys : List ℕ). sum (take (suc n) ys)) parts ∙ sum_by-cons (λ x. x) (f a) (take n (drop (a + 1) xs)) in
+    let rest : sum (take n (drop (a + 1) xs)) ≡ summed f (a + 1) n = sum_part xs (a + 1) n (omega arith) in
+    more ∙ ap (λ (m : ℕ). f a + m) rest ∙ sym (summed_suc f a n)

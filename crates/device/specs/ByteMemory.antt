@@ -1,11 +1,9 @@
 -- What bytes in memory stand for: themselves.
 use Rattle.std.specs.Prelude.{◌≡◌, ℕ, vec_items, Vec}
 use Rattle.std.specs.declared.alloc.Global.{Global}
-use Rattle.fault.specs.declared.refusal.Refusal.TheVariants.{BadDescription}
 use Rattle.device.specs.Meaning.{Meaning}
 use Rattle.device.specs.Rows.{Row, byte_at, length_at}
 use Rattle.device.specs.declared.byte_memory.ByteMemory.{ByteMemory}
-use Rattle.device.specs.declared.byte_memory.Unlaid.{Unlaid}
 
 -- each slot is its row, and what is left is what is still taken
 abbrev pub memory_meaning : ByteMemory → Meaning
@@ -15,8 +13,3 @@ memory_meaning m = record { extent = length_at (vec_items m.rows); cell = byte_a
 pub record Laid (rows : Vec Row Global) (left : ℕ) (m : ByteMemory) : Type 0 where
   pub memory : m.rows ≡ rows
   pub allowance : m.left ≡ left
-
--- a memory not made: the description is at fault, and the rows come back unchanged
-pub record Kept (rows : Vec Row Global) (u : Unlaid) : Type 0 where
-  pub cause : u.refusal ≡ BadDescription
-  pub memory : u.rows ≡ rows

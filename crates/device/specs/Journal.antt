@@ -1,11 +1,9 @@
 -- What a journal stands for: the memory that its commands would leave, were they carried out.
 use Rattle.std.specs.Prelude.{◌≡◌, ℕ, ◌-◌, List, [], ◌++◌, take, vec_items, vec_len, Vec, slice_index}
 use Rattle.std.specs.declared.alloc.Global.{Global}
-use Rattle.fault.specs.declared.refusal.Refusal.TheVariants.{BadDescription}
 use Rattle.device.specs.Meaning.{Meaning, ran}
 use Rattle.device.specs.declared.command.Command.{Command}
 use Rattle.device.specs.declared.journal.Journal.{Journal}
-use Rattle.device.specs.declared.journal.Unmade.{Unmade}
 
 -- the commands taken so far, in order
 abbrev pub written : Journal → List Command
@@ -31,8 +29,3 @@ pub record Fresh (records : Vec Command Global) (start : ℕ) (extents : List �
   pub reaches : j.extents ≡ extents
   pub free : (meaning_of j).allowance ≡ vec_len records
   pub memory : j.records ≡ records
-
--- a journal not made: the description is at fault, and the records come back unchanged
-pub record Returned (records : Vec Command Global) (u : Unmade) : Type 0 where
-  pub cause : u.refusal ≡ BadDescription
-  pub memory : u.records ≡ records

@@ -1,5 +1,6 @@
 -- What a device is to those who command it: its cells, how far each slot extends, and how many commands it still takes.
 use Rattle.std.specs.Prelude.{◌≡◌, ℕ, zero, suc, ◌+◌, ◌-◌, Bool, true, cond, ◌&&◌, List, [], ◌∷◌, length, nat_le, nat_lt}
+use Rattle.std.specs.List.{list_all}
 use Rattle.device.specs.Commands.{painted, fits_in}
 use Rattle.device.specs.declared.command.Command.{Command}
 
@@ -9,8 +10,7 @@ most_cells = 1099511627776
 
 -- whether every extent of a list is one that a slot may have
 abbrev pub all_within : List ℕ → Bool
-all_within [] = true
-all_within (e ∷ es) = nat_le e most_cells && all_within es
+all_within es = list_all (λ e. nat_le e most_cells) es
 
 -- a device as others see it
 pub record Meaning : Type 0 where

@@ -3,8 +3,6 @@ ghost use Rattle.std.specs.Prelude.{◌≡◌, true};
 ghost use Rattle.device.specs.Meaning.{all_within};
 ghost use Rattle.device.specs.Rows.{lengths};
 
-use fault::Refusal;
-
 mod holding;
 mod rows;
 
@@ -14,11 +12,4 @@ pub struct ByteMemory {
     rows: Vec<Vec<u8>>,
     left: u64,
     ghost bounded: { all_within (lengths rows.items) ≡ true },
-}
-
-// Why no memory was made, and the rows that were given for it.
-#[derive(Drop)]
-pub struct Unlaid {
-    pub refusal: Refusal,
-    pub rows: Vec<Vec<u8>>,
 }

@@ -3,7 +3,7 @@ ghost use Rattle.std.specs.Prelude.{◌≡◌};
 ghost use Rattle.device.specs.Commands.{byte_of, covers, fits_in};
 
 // Why the cells are written; only a fill has a byte of its own.
-#[derive(Clone, Copy)]
+#[derive(Clone, Copy, Debug, PartialEq, Eq)]
 pub enum CommandKind {
     Clear,
     Copy,
@@ -12,7 +12,7 @@ pub enum CommandKind {
 }
 
 // The cells of a slot from first on, count of them, and why they are written.
-#[derive(Clone, Copy)]
+#[derive(Clone, Copy, Debug, PartialEq, Eq)]
 pub struct Command {
     pub kind: CommandKind,
     pub slot: u8,

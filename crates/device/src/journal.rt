@@ -3,13 +3,12 @@ ghost use Rattle.std.specs.Prelude.{◌≡◌, ◌≤◌, true, vec_len};
 ghost use Rattle.device.specs.Meaning.{all_within};
 
 use crate::{Command, SLOTS};
-use fault::Refusal;
 
 mod making;
 mod sweep;
 mod taking;
 
-// The records before `used` are written; every cell begins at `start`; a slot has the cells that `extents` gives it.
+// The records before `used` are written, in memory that is given at making, so that no command needs any; every cell begins at `start`; a slot has the cells that `extents` gives it.
 #[derive(Drop)]
 pub struct Journal {
     records: Vec<Command>,
@@ -18,11 +17,4 @@ pub struct Journal {
     extents: [u64; SLOTS],
     ghost room: { used ≤ vec_len records },
     ghost bounded: { all_within extents ≡ true },
-}
-
-// Why no journal was made, and the memory that was given for it.
-#[derive(Drop)]
-pub struct Unmade {
-    pub refusal: Refusal,
-    pub records: Vec<Command>,
 }

@@ -8,8 +8,9 @@ mod interface;
 mod journal;
 mod run;
 
-pub use byte_memory::{ByteMemory, Unlaid};
+pub use byte_memory::ByteMemory;
 pub use command::{Command, CommandKind};
+pub use fault::Unmade;
 pub use interface::{Device, MOST_CELLS, SLOTS};
-pub use journal::{Journal, Unmade};
+pub use journal::Journal;
 pub use run::run_all;

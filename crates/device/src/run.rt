@@ -11,13 +11,10 @@ pub fn run_all<D: Device>(device: &mut D, commands: &[Command]) -> usize
     ensures followed { Followed (D.Device.meaning device.old) (take result commands.now) (D.Device.meaning device.new) }
     ensures stopped { (d : Step) → result < length commands.now → allowed (D.Device.meaning device.new) (slice_index_or commands.now result d) ≡ false }
 {
-    let mut taken = 0;
-    while taken < commands.len() {
-        let command = commands[taken];
-        if !device.take(command) {
+    for (taken, command) in commands.iter().enumerate() {
+        if !device.take(*command) {
             return taken;
         }
-        taken += 1;
     }
-    taken
+    commands.len()
 }

@@ -1,6 +1,6 @@
 // The kinds of calls, for the part of a fault.
 
-#[derive(Clone, Copy)]
+#[derive(Clone, Copy, Debug, PartialEq, Eq)]
 pub enum CallKind {
     MakeBuffer,
     MakeTexture,

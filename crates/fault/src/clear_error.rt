@@ -6,13 +6,13 @@ ghost use Rattle.fault.specs.Parts.{fault_of};
 use crate::{CallKind, Fault, Refusal};
 
 // A resource that a clear names: there is none of that number, or it is destroyed.
-#[derive(Clone, Copy)]
+#[derive(Clone, Copy, Debug, PartialEq, Eq)]
 pub enum InvalidOrDestroyedResourceError {
     InvalidResource,
     DestroyedResource,
 }
 
-#[derive(Clone, Copy)]
+#[derive(Clone, Copy, Debug, PartialEq, Eq)]
 pub enum ClearError {
     DestroyedResource,
     NoValidTextureClearMode,
@@ -45,37 +45,32 @@ impl From<InvalidOrDestroyedResourceError> for ClearError {
     }
 }
 
-impl ClearError {
-    // The cause that a clear is declined for.
-    pub fn refusal(self) -> Refusal
-        ensures { result ≡ refusal_of self }
-    {
-        match self {
+// The cause that a clear is declined for.
+impl From<ClearError> for Refusal {
+    ghost from_gives = { λ error cause. cause ≡ refusal_of error };
+
+    fn from(error: ClearError) -> Refusal {
+        match error {
             ClearError::InvalidResource => Refusal::Unknown,
             ClearError::DestroyedResource => Refusal::Destroyed,
             ClearError::MissingBufferUsage => Refusal::NoCopyUsage,
             ClearError::UnalignedBufferOffset(_) => Refusal::UnalignedStart,
             ClearError::UnalignedFillSize(_) => Refusal::UnalignedEnd,
-            ClearError::OffsetPlusSizeExceeds64BitBounds {
-                start_offset: _,
-                requested_size: _,
-            } => { Refusal::AddressOverflow }
-            ClearError::BufferOverrun {
-                start_offset: _,
-                end_offset: _,
-                buffer_size: _,
-            } => Refusal::PastBuffer,
+            ClearError::OffsetPlusSizeExceeds64BitBounds { .. } => Refusal::AddressOverflow,
+            ClearError::BufferOverrun { .. } => Refusal::PastBuffer,
             ClearError::MissingTextureAspect => Refusal::MissingAspect,
             ClearError::InvalidTextureLevelRange => Refusal::PastMips,
             ClearError::InvalidTextureLayerRange => Refusal::PastLayers,
             ClearError::NoValidTextureClearMode => Refusal::NoClearMode,
         }
     }
+}
 
+impl ClearError {
     // The fault of the clear that found it.
     pub fn fault(self, call: CallKind, resource: u8, place: u8) -> Fault
         ensures { result ≡ fault_of call (refusal_of self) resource place }
     {
-        Fault::new(call, self.refusal(), resource, place)
+        Fault::new(call, Refusal::from(self), resource, place)
     }
 }

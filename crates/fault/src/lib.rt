@@ -2,25 +2,26 @@
 #![tactic(auto)]
 
 ghost use Rattle.std.specs.Prelude.{◌≡◌};
-ghost use Rattle.fault.specs.Numbers.{number_of, part_number};
-ghost use Rattle.fault.specs.Parts.{part_of, fault_of, resource_of, place_of};
+ghost use Rattle.fault.specs.Parts.{fault_of};
 
 mod call_kind;
 mod clear_error;
 mod refusal;
+mod unmade;
 
 pub use call_kind::CallKind;
 pub use clear_error::{ClearError, InvalidOrDestroyedResourceError};
 pub use refusal::{Part, Refusal};
+pub use unmade::Unmade;
 
-// The number that stands for no resource.
+// The number that stands for no resource, by the rules of what a caller is told, in place of an Option.
 pub const NO_RESOURCE: u8 = 255;
 
-// The number that stands for no step.
+// The number that stands for no step, alike.
 pub const NO_PLACE: u8 = 64;
 
 // What a declined call answers: the cause, the part that declines, the resource and the place of the step concerned.
-#[derive(Clone, Copy)]
+#[derive(Clone, Copy, Debug, PartialEq, Eq)]
 pub struct Fault {
     pub refusal: Refusal,
     pub part: Part,
@@ -48,5 +49,12 @@ impl Fault {
             resource,
             place,
         }
+    }
+
+    // The fault of a call that no resource and no step is named for.
+    pub fn of_call(call: CallKind, refusal: Refusal) -> Fault
+        ensures { result ≡ fault_of call refusal 255 64 }
+    {
+        Fault::new(call, refusal, NO_RESOURCE, NO_PLACE)
     }
 }

@@ -5,7 +5,7 @@ ghost use Rattle.fault.specs.Parts.{part_of, names_nothing, range_part, destroye
 
 use crate::CallKind;
 
-#[derive(Clone, Copy)]
+#[derive(Clone, Copy, Debug, PartialEq, Eq)]
 pub enum Refusal {
     // A number or a call is unknown, or the number is of the other kind of resource.
     Unknown,
@@ -52,7 +52,7 @@ pub enum Refusal {
 }
 
 // The part of the planner that declines.
-#[derive(Clone, Copy)]
+#[derive(Clone, Copy, Debug, PartialEq, Eq)]
 pub enum Part {
     RangeList,
     Clear,
@@ -61,12 +61,12 @@ pub enum Part {
     Making,
 }
 
-impl Part {
-    // The part's number, 1 to 5.
-    pub fn number(self) -> u8
-        ensures { result ≡ part_number self }
-    {
-        match self {
+// The part's number, 1 to 5.
+impl From<Part> for u8 {
+    ghost from_gives = { λ part number. number ≡ part_number part };
+
+    fn from(part: Part) -> u8 {
+        match part {
             Part::RangeList => 1,
             Part::Clear => 2,
             Part::List => 3,
@@ -76,12 +76,12 @@ impl Part {
     }
 }
 
-impl Refusal {
-    // The cause's number, 1 to 21.
-    pub fn number(self) -> u8
-        ensures { result ≡ number_of self }
-    {
-        match self {
+// The cause's number, 1 to 21.
+impl From<Refusal> for u8 {
+    ghost from_gives = { λ refusal number. number ≡ number_of refusal };
+
+    fn from(refusal: Refusal) -> u8 {
+        match refusal {
             Refusal::Unknown => 1,
             Refusal::WrongState => 2,
             Refusal::InDebt => 3,
@@ -105,7 +105,9 @@ impl Refusal {
             Refusal::NotThisDebt => 21,
         }
     }
+}
 
+impl Refusal {
     // The part that declines the call for this cause.
     pub fn part(self, call: CallKind) -> Part
         ensures { result ≡ part_of call self }
@@ -138,16 +140,16 @@ impl Refusal {
     pub fn names_nothing(self) -> bool
         ensures { result ≡ names_nothing self }
     {
-        match self {
+        matches!(
+            self,
             Refusal::Unknown
-            | Refusal::WrongState
-            | Refusal::InDebt
-            | Refusal::AllowanceShort
-            | Refusal::NoNumberFree
-            | Refusal::BadDescription
-            | Refusal::NotThisDebt => true,
-            _ => false,
-        }
+                | Refusal::WrongState
+                | Refusal::InDebt
+                | Refusal::AllowanceShort
+                | Refusal::NoNumberFree
+                | Refusal::BadDescription
+                | Refusal::NotThisDebt
+        )
     }
 }
 

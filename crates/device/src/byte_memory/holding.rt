@@ -1,24 +1,25 @@
 // How a memory is made, commanded, and taken apart.
 ghost use Rattle.std.specs.Prelude.{◌≡◌, is_ok, MatchResult};
-ghost use Rattle.device.specs.ByteMemory.{Kept, Laid, memory_meaning};
+ghost use Rattle.fault.specs.Unmade.{Returned};
+ghost use Rattle.device.specs.ByteMemory.{Laid, memory_meaning};
 ghost use Rattle.device.specs.Rows.{laid_out, lengths};
 ghost use Rattle.device.specs.Extents.{extent_within};
 
+use crate::byte_memory::ByteMemory;
 use crate::byte_memory::rows::{laid_out, length_at, paint, sum_at};
-use crate::byte_memory::{ByteMemory, Unlaid};
 use crate::{Command, Device};
-use fault::Refusal;
+use fault::{Refusal, Unmade};
 
 impl ByteMemory {
     // A memory of these rows, or the rows back where they are too many or too long.
-    pub fn new(rows: Vec<Vec<u8>>, allowance: u64) -> Result<ByteMemory, Unlaid>
+    pub fn new(rows: Vec<Vec<u8>>, allowance: u64) -> Result<ByteMemory, Unmade<Vec<Vec<u8>>>>
         ensures answer { is_ok result ≡ laid_out rows.items }
-        ensures made { MatchResult result (Laid rows allowance) (Kept rows) }
+        ensures made { MatchResult result (Laid rows allowance) (Returned rows) }
     {
         if !laid_out(&rows) {
-            return Err(Unlaid {
+            return Err(Unmade {
                 refusal: Refusal::BadDescription,
-                rows,
+                given: rows,
             });
         }
         Ok(ByteMemory {
@@ -48,10 +49,7 @@ impl Device for ByteMemory {
 
     // Writes the command into its row, or declines it and writes nothing.
     fn take(&mut self, c: Command) -> bool {
-        if self.left == 0 {
-            return false;
-        }
-        if !c.fits(length_at(&self.rows, c.slot)) {
+        if self.left == 0 || !c.fits(length_at(&self.rows, c.slot)) {
             return false;
         }
         paint(&mut self.rows, c);

@@ -30,11 +30,7 @@ fn boundary(command: Command, slot: u8, at: u64, end: u64) -> u64
         return end;
     }
     if at < command.first {
-        return if command.first < end {
-            command.first
-        } else {
-            end
-        };
+        return command.first.min(end);
     }
     let passed = at - command.first;
     if passed < command.count && command.count - passed < end - at {

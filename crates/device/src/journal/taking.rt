@@ -12,8 +12,7 @@ use crate::{Command, Device, SLOTS};
 fn extent_at(extents: &[u64; SLOTS], slot: u8) -> u64
     ensures { result ≡ slice_index extents.now slot }
 {
-    let place = slot as usize;
-    if place < SLOTS { extents[place] } else { 0 }
+    extents.get(usize::from(slot)).copied().unwrap_or(0)
 }
 
 impl Device for Journal {
@@ -29,10 +28,7 @@ impl Device for Journal {
 
     // Writes the command down after those before it, or declines it and writes nothing.
     fn take(&mut self, c: Command) -> bool {
-        if self.used == self.records.len() {
-            return false;
-        }
-        if !c.fits(extent_at(&self.extents, c.slot)) {
+        if self.used == self.records.len() || !c.fits(extent_at(&self.extents, c.slot)) {
             return false;
         }
         self.records[self.used] = c;

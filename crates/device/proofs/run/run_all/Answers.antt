@@ -1,5 +1,5 @@
 -- A taken command joins those before it, and a declined one ends the run.
-use Rattle.std.proofs.Common.{List, get_or, take, sym, ap, ◌∙◌, subst, arith}
+use Rattle.std.proofs.Common.{◌≡◌, ℕ, length, List, get_or, take, sym, ap, ◌∙◌, subst, arith}
 use Rattle.std.proofs.lemmas.List.{get_or_default, take_more}
 use Rattle.device.specs.Meaning.{Followed, allowed}
 use Rattle.device.specs.declared.command.Command.{Command}
@@ -42,4 +42,12 @@ returns-then-not-take g c =
 
 pub returns : goal.returns
 returns g c =
-    record { within = omega arith; followed = c.loop-taken.invariant.1; stopped = λ d less. absurd (omega arith) }
+    let xs = c.args.commands.now in
+    let start = g.D.Device.meaning c.args.device.now in
+    let end = g.D.Device.meaning c.loop-taken.device in
+    let all : c.loop-taken.taken ≡ length xs = omega arith in
+    record {
+      within = omega arith;
+      followed = subst (λ (n : ℕ). Followed start (take n xs) end) all c.loop-taken.invariant.1;
+      stopped = λ d less. absurd (omega arith);
+    }

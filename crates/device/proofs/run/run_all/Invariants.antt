@@ -1,5 +1,5 @@
 -- Which commands were taken so far.
-use Rattle.std.proofs.Common.{◌-◌, ◌≤◌, length, take}
+use Rattle.std.proofs.Common.{◌≤◌, length, take}
 use Rattle.device.specs.Meaning.{Followed}
 use Rattle.device.proofs.run.run_all.Given as goal
 
@@ -8,6 +8,3 @@ abbrev pub invariant-loop-taken : goal.invariant-loop-taken
 invariant-loop-taken g l =
     (l.taken ≤ length l.commands)
     × Followed (g.D.Device.meaning l.initial.device) (take l.taken l.commands) (g.D.Device.meaning l.device)
-
-abbrev pub decreases-loop-taken : goal.decreases-loop-taken
-decreases-loop-taken g l = length l.commands - l.taken

@@ -1,38 +1,31 @@
--- A command that fits writes its part of one row, and an empty one writes nothing.
-use Rattle.std.proofs.Common.{◌+◌, ◌&&◌, ltb, leb, vec_items, refl, arith}
+-- A command that fits writes its part of one row.
+use Rattle.std.proofs.Common.{◌≡◌, ℕ, ◌+◌, ◌&&◌, cond, eqb, List, length, ltb, leb, get_or, vec_items, vec_len, sym, ap, ◌∙◌, arith}
+use Rattle.std.specs.Vec.{with_items}
 use Rattle.device.specs.Commands.{byte_of}
-use Rattle.device.specs.Rows.{byte_at, length_at}
-use Rattle.device.proofs.Cells.{painted_nothing}
-use Rattle.device.proofs.Extents.{fits_nothing, fits_within}
-use Rattle.device.proofs.Slots.{byte_put, length_here, length_past, lengths_set}
+use Rattle.device.specs.Rows.{Row, byte_at}
+use Rattle.device.proofs.Slots.{byte_put, items_written, lengths_set}
 use Rattle.device.proofs.byte_memory.rows.paint.Goals as goal
 
-pub returns-then-c-eq0 : goal.returns-then-c-eq0
-returns-then-c-eq0 c =
-    record { long = refl; cells = painted_nothing (byte_at (vec_items c.args.rows.now)) c.args.c c.if-c-eq0.true }
+pub returns-clause-long : goal.returns-clause-long
+returns-clause-long c =
+    let place = c.from-place.result in
+    let row = c.index-rows-place.result in
+    let same : vec_len (get_or c.args.rows.now place row) ≡ vec_len row = ap (λ (v : Row). vec_len v) (sym c.index-rows-place.is) in
+    lengths_set c.args.rows.now place row (omega arith) c.index-rows-place.is (with_items (get_or c.args.rows.now place row) c.fill.new.row) same
 
-pub returns-then-place-len : goal.returns-then-place-len
-returns-then-place-len c =
-    let rows = vec_items c.args.rows.now in
-    let none = fits_nothing (length_at rows) c.args.c c.requires (length_past rows c.args.c.slot (omega arith)) in
-    record { long = refl; cells = painted_nothing (byte_at rows) c.args.c none }
-
-pub fill-requires : goal.fill-requires
-fill-requires c =
-    let rows = vec_items c.args.rows.now in
-    let here = length_here rows c.args.c.slot c.index_mut.result.now (omega arith) c.index_mut.ensures.value in
-    let fits = fits_within (length_at rows) c.args.c c.requires c.if-c-eq0.false in
-    omega arith
-
-pub returns : goal.returns
-returns c =
-    let rows = vec_items c.args.rows.now in
-    let place = c.args.c.slot in
-    let old = c.index_mut.result.now in
+pub returns-clause-cells : goal.returns-clause-cells
+returns-clause-cells c s i =
+    let rows = c.args.rows.now in
+    let place = c.from-place.result in
+    let row = c.index-rows-place.result in
     let first = c.args.c.first in
     let count = c.args.c.count in
-    record {
-      long = lengths_set rows place old (omega arith) c.index_mut.ensures.value c.fill.new.row c.fill.ensures.long;
-      cells =
-          byte_put rows place old (omega arith) c.index_mut.ensures.value c.fill.new.row (λ i. leb first i && ltb i (first + count)) c.byte.result (byte_of c.args.c.kind) c.byte.ensures c.fill.ensures.cells;
-    }
+    let whole = get_or rows place row in
+    let bytes = vec_items row in
+    let was : c.deref_mut.result.now ≡ bytes = c.deref_mut.ensures.value ∙ ap (λ (v : Row). vec_items v) (sym c.index-rows-place.is) in
+    let long : length c.fill.new.row ≡ vec_len whole = c.fill.ensures.long ∙ c.deref_mut.ensures.len in
+    let now : vec_items (with_items whole c.fill.new.row) ≡ c.fill.new.row = items_written whole c.fill.new.row long in
+    let after : (k : ℕ) → get_or (vec_items (with_items whole c.fill.new.row)) k 0 ≡ cond (leb first k && ltb k (first + count)) c.byte.result (get_or bytes k 0)
+    = λ k. ap (λ (xs : List ℕ). get_or xs k 0) now ∙ c.fill.ensures.cells k ∙ ap (λ (xs : List ℕ). cond (leb first k && ltb k (first + count)) c.byte.result (get_or xs k 0)) was in
+    byte_put rows place row (omega arith) c.index-rows-place.is (with_items whole c.fill.new.row) (λ k. leb first k && ltb k (first + count)) c.byte.result (byte_of c.args.c.kind) c.byte.ensures after s i
+    ∙ ap (λ (p : ℕ). cond (eqb s p && (leb first i && ltb i (first + count))) (byte_of c.args.c.kind) (byte_at rows s i)) c.from-place.ensures
