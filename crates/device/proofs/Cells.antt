@@ -1,7 +1,6 @@
 -- What runs of commands do to cells: run after run, on equal cells, and one command more.
-use Rattle.std.proofs.Common.{◌≡◌, ℕ, ◌+◌, ◌<◌, ◌≤◌, cond, List, [], ◌∷◌, ◌++◌, length, get_or, take, refl, ap, ◌∙◌, arith}
+use Rattle.std.proofs.Common.{◌≡◌, ℕ, ◌+◌, ◌<◌, ◌≤◌, cond, List, [], ◌∷◌, ◌++◌, length, get_or, take, refl, ap, ◌∙◌}
 use Rattle.std.proofs.lemmas.List.{take_all, take_more}
-use Rattle.std.proofs.lemmas.Bool.Decides.{nat_tests}
 use Rattle.device.specs.Commands.{byte_of, covers, painted}
 use Rattle.device.specs.Meaning.{ran}
 use Rattle.device.specs.declared.command.Command.{Command}
@@ -18,10 +17,6 @@ ran_append_at f xs ys s i = ap (λ (g : ℕ → ℕ → ℕ). g s i) (ran_append
 -- one command more paints what the others left
 pub ran_push : (f : ℕ → ℕ → ℕ) (xs : List Command) (c : Command) (s i : ℕ) → ran f (xs ++ (c ∷ [])) s i ≡ painted (ran f xs) c s i
 ran_push f xs c s i = ran_append_at f xs (c ∷ []) s i
-
--- an empty command leaves every cell
-pub painted_nothing : (f : ℕ → ℕ → ℕ) (c : Command) → c.count ≡ 0 → (s i : ℕ) → f s i ≡ painted f c s i
-painted_nothing f c e s i = grind (arith, nat_tests)
 
 -- a command on equal cells leaves equal cells
 pub painted_same : (f g : ℕ → ℕ → ℕ) (c : Command) → ((s i : ℕ) → f s i ≡ g s i) → (s i : ℕ) → painted f c s i ≡ painted g c s i

@@ -1,8 +1,7 @@
 -- Commands within extents.
-use Rattle.std.specs.Prelude.{◌≡◌, ℕ, ◌+◌, ◌<◌, ◌≤◌, true, ◌||◌, ◌==◌, ◌≢◌, nat_le, nat_lt}
-use Rattle.std.proofs.Common.{sym, ap, ◌∙◌, arith}
+use Rattle.std.specs.Prelude.{◌≡◌, ℕ, ◌+◌, ◌<◌, true, ◌||◌, ◌==◌, nat_le, nat_lt}
+use Rattle.std.proofs.Common.{sym, ap, ◌∙◌}
 use Rattle.std.proofs.lemmas.Bool.{lt-ltb, and_from}
-use Rattle.std.proofs.lemmas.Bool.Decides.{nat_tests}
 use Rattle.device.specs.Commands.{fits_in}
 use Rattle.device.specs.Meaning.{Meaning, allowed}
 use Rattle.device.specs.declared.command.Command.{Command}
@@ -12,11 +11,3 @@ pub allowed_since : (m : Meaning) (c : Command) (e : ℕ) → 0 < m.allowance �
 allowed_since m c e some is fits =
     let here : fits_in (λ _. e) c ≡ fits_in m.extent c = ap (λ (n : ℕ). (c.count == 0) || nat_le (c.first + c.count) n) is in
     sym (and_from (nat_lt 0 m.allowance) (fits_in m.extent c) (lt-ltb 0 m.allowance some) (sym (fits ∙ here)))
-
--- a command that fits and is not empty ends within its slot
-pub fits_within : (extent : ℕ → ℕ) (c : Command) → fits_in extent c ≡ true → (c.count ≢ 0) → c.first + c.count ≤ extent c.slot
-fits_within extent c fits some = grind (arith, nat_tests)
-
--- a command that fits a slot of no cells is empty
-pub fits_nothing : (extent : ℕ → ℕ) (c : Command) → fits_in extent c ≡ true → 0 ≡ extent c.slot → c.count ≡ 0
-fits_nothing extent c fits none = grind (arith, nat_tests)

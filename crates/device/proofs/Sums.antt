@@ -41,13 +41,6 @@ summed_split f a (suc m) n =
     let t : summed f (a + suc m) n ≡ summed f (a + 1 + m) n = ap (λ (x : ℕ). summed f x n) z in
     omega (arith, summed_suc f a (m + n), summed_suc f a m, summed_split f (a + 1) m n)
 
--- one cell more at the end
-pub summed_push : (f : ℕ → ℕ) (a n : ℕ) → summed f a (n + 1) ≡ summed f a n + f (a + n)
-unfolding summed
-summed_push f a n =
-    let one : summed f (a + n) 1 ≡ f (a + n) + 0 = refl in
-    omega (arith, summed_split f a n 1)
-
 -- cells that all hold one value sum to that value, count times
 pub summed_alike : (f : ℕ → ℕ) (v a n : ℕ) → ((i : ℕ) → a ≤ i → i < a + n → f i ≡ v) → summed f a n ≡ v * n
 summed_alike f v a zero h = summed_none f a ∙ sym (mul-zero v)

@@ -1,5 +1,5 @@
 -- What a device is to those who command it: its cells, how far each slot extends, and how many commands it still takes.
-use Rattle.std.specs.Prelude.{◌≡◌, ℕ, zero, suc, ◌+◌, ◌-◌, Bool, true, cond, ◌&&◌, List, [], ◌∷◌, length, nat_le, nat_lt}
+use Rattle.std.specs.Prelude.{◌≡◌, ℕ, zero, suc, ◌+◌, ◌-◌, Bool, cond, ◌&&◌, List, [], ◌∷◌, length, nat_le, nat_lt}
 use Rattle.std.specs.List.{list_all}
 use Rattle.device.specs.Commands.{painted, fits_in}
 use Rattle.device.specs.declared.command.Command.{Command}

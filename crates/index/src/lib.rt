@@ -1,9 +1,10 @@
-// What a range list asks of the indexes that its ranges lie between: a position, and an order that follows it.
+// What a range list asks of the indexes that its ranges lie between: an order, and positions that it follows.
 #![tactic(auto)]
 
-ghost use Rattle.std.specs.Prelude.{◌≡◌, ℕ, ◌+◌, ◌<◌, max, min, ◌==◌, nat_lt};
+ghost use Rattle.std.specs.Prelude.{◌≡◌, ℕ, ◌+◌, ◌<◌, max, min, ◌==◌, nat_lt, refl};
+ghost use Rattle.std.specs.Ordering.{nat_cmp};
 
-pub trait Index: Copy {
+pub trait Index: Ord + Copy {
     // where an index stands, counted from the least
     ghost position: { Self → ℕ };
 
@@ -11,12 +12,18 @@ pub trait Index: Copy {
     fn least() -> Self
         ensures { position result ≡ 0 };
 
-    // Whether this index stands before the other.
-    fn before(self, other: Self) -> bool
-        ensures { result ≡ nat_lt (position self) (position other) };
+    // an index is before another where its position is
+    ghost follows: { (a b : Self) → Self.cmp a b ≡ nat_cmp (position a) (position b) };
 
     // equal positions mean equal indexes
     ghost apart: { (a b : Self) → position a ≡ position b → a ≡ b };
+
+    // Whether this index stands before the other.
+    final fn before(self, other: Self) -> bool
+        ensures { result ≡ nat_lt (position self) (position other) }
+    {
+        self < other
+    }
 }
 
 // An index that has a next one; only adding a single index to a list asks for it.
@@ -31,16 +38,13 @@ pub trait Stepping: Index {
 impl Index for u64 {
     ghost position = { λ x. x };
 
+    ghost follows = { λ a b. refl };
+
     ghost apart = { λ a b same. same };
 
     // The first byte.
     fn least() -> u64 {
         u64::MIN
-    }
-
-    // Whether this byte stands before the other.
-    fn before(self, other: u64) -> bool {
-        self < other
     }
 }
 
@@ -48,16 +52,13 @@ impl Index for u64 {
 impl Index for u32 {
     ghost position = { λ x. x };
 
+    ghost follows = { λ a b. refl };
+
     ghost apart = { λ a b same. same };
 
     // The first layer.
     fn least() -> u32 {
         u32::MIN
-    }
-
-    // Whether this layer stands before the other.
-    fn before(self, other: u32) -> bool {
-        other > self
     }
 }
 
@@ -72,19 +73,19 @@ impl Stepping for u32 {
 pub fn later<I: Index>(a: I, b: I) -> I
     ensures { I.Index.position result ≡ max (I.Index.position a) (I.Index.position b) }
 {
-    if a.before(b) { b } else { a }
+    a.max(b)
 }
 
 // The one of two indexes that stands earlier.
 pub fn earlier<I: Index>(a: I, b: I) -> I
     ensures { I.Index.position result ≡ min (I.Index.position a) (I.Index.position b) }
 {
-    if a.before(b) { a } else { b }
+    a.min(b)
 }
 
 // Whether two indexes have one position.
 pub fn same<I: Index>(a: I, b: I) -> bool
     ensures { result ≡ (I.Index.position a == I.Index.position b) }
 {
-    !a.before(b) && !b.before(a)
+    a == b
 }

@@ -1,7 +1,6 @@
 -- A slot's sum is its row's, and that of a slot with no row is empty.
 use Rattle.std.proofs.Common.{◌≡◌, ℕ, length, ◌<◌, ◌+◌, ◌-◌, List, get_or, vec_items, sym, ◌∙◌, ap, take, drop, sum, arith, rules}
-use Rattle.device.specs.Meaning.{summed}
-use Rattle.device.specs.Rows.{Row, byte_at}
+use Rattle.device.specs.Rows.{byte_at}
 use Rattle.device.proofs.Slots.{byte_here, length_here, length_past}
 use Rattle.device.proofs.Sums.{summed_empty, summed_same, sum_part}
 use Rattle.device.proofs.byte_memory.rows.sum_at.Goals as goal

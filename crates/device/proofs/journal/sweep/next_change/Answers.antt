@@ -1,9 +1,9 @@
 -- Cells that are alike and covered alike by one record more stay alike.
-use Rattle.std.proofs.Common.{ℕ, get_or, take, sym, ◌∙◌, arith}
+use Rattle.std.proofs.Common.{get_or, take, sym, ◌∙◌, arith}
 use Rattle.device.specs.Meaning.{ran}
 use Rattle.device.specs.declared.command.Command.{Command}
 use Rattle.device.specs.declared.command.CommandKind.TheVariants.{Clear}
-use Rattle.device.proofs.Cells.{painted_alike, ran_all, ran_more}
+use Rattle.device.proofs.Cells.{painted_alike, ran_more}
 use Rattle.device.proofs.journal.sweep.next_change.Goals as goal
 
 pub loop-record-preserved : goal.loop-record-preserved
@@ -20,12 +20,3 @@ loop-record-preserved c =
           ∙ painted_alike (ran (λ _ _. b) (take k xs)) (get_or xs k none) s i c.args.at (c.boundary-next.ensures.alike i l u) (c.loop-record.invariant.2 b i l (omega arith))
           ∙ sym (more c.args.at),
     )
-
-pub returns : goal.returns
-returns c =
-    let all = λ (b : ℕ). ran_all (λ _ _. b) c.args.records.now c.loop-record.record-index c.loop-record-test.false c.args.slot in
-    record {
-      above = c.loop-record.invariant.0;
-      within = c.loop-record.invariant.1;
-      alike = λ b i l u. sym (all b i) ∙ c.loop-record.invariant.2 b i l u ∙ all b c.args.at;
-    }

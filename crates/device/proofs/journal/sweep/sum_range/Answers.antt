@@ -11,9 +11,6 @@ loop-at-init c = (omega arith, omega arith, omega arith, summed_empty _ c.args.f
 part : (c : goal.After-next_change-next) → c.value_at-value.result * (c.next_change-next.result - c.loop-at.at) ≤ 255 * (c.next_change-next.result - c.loop-at.at)
 part c = byte_product c.value_at-value.result (c.next_change-next.result - c.loop-at.at) (omega arith)
 
-pub overflow_add-sum : goal.overflow_add-sum
-overflow_add-sum c = omega (arith, part c)
-
 pub loop-at-preserved : goal.loop-at-preserved
 loop-at-preserved c =
     let f : ℕ → ℕ = λ i. ran (λ _ _. c.args.start) c.args.records.now c.args.slot i in (

@@ -5,7 +5,7 @@ use Rattle.device.specs.Commands.{byte_of, covers}
 use Rattle.device.specs.Meaning.{ran}
 use Rattle.device.specs.declared.command.Command.{Command}
 use Rattle.device.specs.declared.command.CommandKind.TheVariants.{Clear}
-use Rattle.device.proofs.Cells.{ran_all, ran_more}
+use Rattle.device.proofs.Cells.{ran_more}
 use Rattle.device.proofs.journal.sweep.value_at.Goals as goal
 use Rattle.device.proofs.journal.sweep.value_at.Goals.{then-covers, else-covers}
 
@@ -21,6 +21,3 @@ loop-record-preserved c =
       | then-covers w ↦ w.byte-is ∙ w.byte-byte.ensures ∙ sym (more ∙ cond-true (covers r s i) (byte_of r.kind) (f s i) (sym c.covers.ensures ∙ w.if-covers.true))
       | else-covers w ↦ w.byte-is ∙ c.loop-record.invariant ∙ sym (more ∙ cond-false (covers r s i) (byte_of r.kind) (f s i) (sym c.covers.ensures ∙ w.if-covers.false))
     ]
-
-pub returns : goal.returns
-returns c = c.loop-record.invariant ∙ ran_all (λ _ _. c.args.start) c.args.records.now c.loop-record.record-index c.loop-record-test.false c.args.slot c.args.at
