@@ -1,11 +1,9 @@
 -- A planner just made, or not made.
 use Rattle.std.specs.Prelude.{◌≡◌, ℕ, Bool, ◌&&◌, nat_le}
 use Rattle.device.specs.declared.interface.Device.{Ghosts}
-use Rattle.fault.specs.declared.refusal.Refusal.TheVariants.{BadDescription}
 use Rattle.rules.specs.State.{new_state}
 use Rattle.planner.specs.View.{view}
 use Rattle.planner.specs.declared.planner.Planner.{Planner}
-use Rattle.planner.specs.declared.planner.Unmade.{Unmade}
 
 -- rows of a copy are aligned to 1 to 256 bytes
 abbrev pub pitched : ℕ → Bool
@@ -15,8 +13,3 @@ pitched n = nat_le 1 n && nat_le n 256
 pub record Fresh {D : Type 0} {ghosts : Ghosts D} (given : D) (mark pitch : ℕ) (p : Planner D ghosts) : Type 0 where
   pub state : view p ≡ new_state mark pitch
   pub device : p.device ≡ given
-
--- the description is at fault, and the device comes back as it was
-pub record Returned {D : Type 0} (given : D) (u : Unmade D) : Type 0 where
-  pub cause : u.refusal ≡ BadDescription
-  pub device : u.device ≡ given

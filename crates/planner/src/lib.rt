@@ -5,4 +5,5 @@ mod list;
 mod planner;
 mod uses;
 
-pub use planner::{Planner, Unmade};
+pub use fault::Unmade;
+pub use planner::Planner;

@@ -28,9 +28,3 @@ pub struct Planner<D: Device> {
     ghost few: { made ≤ 16 },
     ghost four: { length lists ≡ 4 },
 }
-
-// Why no planner was made, and the device that was given for it.
-pub struct Unmade<D> {
-    pub refusal: fault::Refusal,
-    pub device: D,
-}

@@ -113,6 +113,6 @@ pub(crate) fn check_clear(
             }
             Ok(end)
         }
-        Err(e) => Err(e.refusal()),
+        Err(error) => Err(error.into()),
     }
 }

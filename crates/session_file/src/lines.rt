@@ -102,7 +102,7 @@ pub(crate) fn write_answer(
         Answer::Made(number) => write_ok(heap, out, call, number as u64),
         Answer::Done => write_ok(heap, out, call, 0),
         Answer::Submitted => write_ok(heap, out, call, cleared),
-        Answer::Declined(fault) => write_no(heap, out, call, fault.refusal.number()),
+        Answer::Declined(fault) => write_no(heap, out, call, fault.refusal.into()),
     }
 }
 

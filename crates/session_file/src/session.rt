@@ -6,7 +6,7 @@ use crate::calls::run_calls;
 use crate::header::read_header;
 use crate::journal::make_journal;
 use crate::lines::write_bad;
-use planner::{Planner, Unmade};
+use planner::Planner;
 use rules::{Records, Report};
 use std::alloc::{AllocError, Global};
 
@@ -25,12 +25,7 @@ pub fn run(heap: Global, input: &[u8]) -> Result<Vec<u8>, AllocError>
     let journal = make_journal(heap, header)?;
     let mut planner = match Planner::new(journal, MARK, header.pitch) {
         Ok(planner) => planner,
-        Err(
-            Unmade {
-                refusal: _,
-                device: _,
-            },
-        ) => unreachable(),
+        Err(_) => unreachable(),
     };
     let report = Report::new();
     let mut records = Records { report };

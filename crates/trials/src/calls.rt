@@ -1,6 +1,6 @@
 // What a planner declines, by number, and what it leaves.
 use device::{Command, CommandKind, Journal, SLOTS};
-use planner::{Planner, Unmade};
+use planner::Planner;
 use rules::{Answer, Call, Records, Report};
 use std::test::Fail;
 
@@ -15,12 +15,7 @@ fn planner(rt: &HostRuntime) -> Result<Planner<Journal>, Fail> {
     match Journal::new(vec![in rt.alloc(); blank; 2]?, 7, [1 << 40; SLOTS]) {
         Ok(journal) => match Planner::new(journal, 0, 256) {
             Ok(planner) => Ok(planner),
-            Err(
-                Unmade {
-                    refusal: _,
-                    device: _,
-                },
-            ) => Err(Fail::new("no planner")),
+            Err(_) => Err(Fail::new("no planner")),
         },
         Err(_) => Err(Fail::new("no journal")),
     }
@@ -29,7 +24,7 @@ fn planner(rt: &HostRuntime) -> Result<Planner<Journal>, Fail> {
 // The number of what declines a call, or 0.
 fn declined(answer: Answer) -> u8 {
     match answer {
-        Answer::Declined(fault) => fault.refusal.number(),
+        Answer::Declined(fault) => fault.refusal.into(),
         _ => 0,
     }
 }

@@ -92,7 +92,7 @@ fn hands_the_records_back(rt: HostRuntime) -> Result<(), Fail> {
     match Journal::new(vec![in rt.alloc(); fill(0, 0, 0); 3]?, 0, extents) {
         Ok(_) => Err(Fail::new("made")),
         Err(unmade) => {
-            assert!(rt; unmade.records.len() == 3 && unmade.refusal.number() == 20);
+            assert!(rt; unmade.given.len() == 3 && u8::from(unmade.refusal) == 20);
             Ok(())
         },
     }

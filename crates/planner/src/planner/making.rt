@@ -1,15 +1,16 @@
 // How a planner is made, and how its buffers are made and destroyed.
 ghost use Rattle.std.specs.Prelude.{◌≡◌, ◌<◌, ◌≤◌, is_ok, MatchResult};
+ghost use Rattle.fault.specs.Unmade.{Returned};
 ghost use Rattle.rules.specs.Making.{make_answer, make_after, destroy_answer, destroy_after};
 ghost use Rattle.rules.specs.State.{new_state, no_buffer, buffer_at};
 ghost use Rattle.plan.specs.Views.{view_buffer};
 ghost use Rattle.planner.specs.View.{view};
-ghost use Rattle.planner.specs.Made.{pitched, Fresh, Returned};
+ghost use Rattle.planner.specs.Made.{pitched, Fresh};
 
 use crate::list::CommandList;
-use crate::planner::{BUFFERS, LISTS, Planner, Unmade};
+use crate::planner::{BUFFERS, LISTS, Planner};
 use device::Device;
-use fault::{CallKind, Fault, NO_PLACE, NO_RESOURCE, Refusal};
+use fault::{CallKind, Fault, NO_PLACE, NO_RESOURCE, Refusal, Unmade};
 use init_tracker::BufferInitTracker;
 use plan::{Buffer, MOST_BYTES};
 
@@ -34,7 +35,7 @@ impl<D: Device> Planner<D> {
         if pitch == 0 || pitch > 256 {
             return Err(Unmade {
                 refusal: Refusal::BadDescription,
-                device,
+                given: device,
             });
         }
         Ok(Planner {
