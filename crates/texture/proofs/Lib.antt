@@ -1,4 +1,6 @@
+pub mod Named
 pub mod Halved
+pub mod Rounded
 pub mod Proper
 pub mod Sides
 pub mod Tiles

@@ -1,8 +1,10 @@
 -- The least common multiple: what the definition finds is least, and it is the product over the greatest common divisor.
 use Rattle.std.proofs.Common.{◌≡◌, ℕ, zero, suc, ◌+◌, ◌-◌, ◌*◌, ◌/◌, ◌%◌, ◌<◌, ◌≤◌, Bool, true, false, cond, ◌&&◌, eqb, sym, ap, ◌∙◌, subst, ⊎_elim, le_refl, mul-le-mul_right, mod-lt, mul_assoc, mul_comm, mul-le-mul_left, mul-pos, mul-suc, div-le_self, arith}
 use Prim.Native.Nat.{◌∣◌}
-use native.Mathlib.Nat.{le_of_dvd, dvd-mul_left, dvd-mul_right, dvd-sub, dvd-mul_right_of_dvd, dvd_of_mod-eq-zero, mod-eq-zero_of_dvd, div-mul_cancel, mul-div_assoc, mod_def, dvd-mod_iff, mul-div_cancel_left, mod-zero}
+use native.Mathlib.Nat.{le_of_dvd, dvd-mul_left, dvd-mul_right, dvd-sub, dvd-mul_right_of_dvd, dvd_of_mod-eq-zero, mod-eq-zero_of_dvd, div-mul_cancel, mul-div_assoc, mod_def, mul-div_cancel_left}
 use Rattle.std.proofs.lemmas.Bool.{and_parts, and_from, eqb-true, eq-eqb, cases_Bool, cases_lt, cases_order, true≢false}
+use Rattle.std.proofs.Math.Nat.{pos_of_dvd_of_pos}
+use Rattle.std.specs.Int.{IsGcd}
 use Rattle.texture.specs.Copies.{first_passing, common_multiple, lcm}
 
 -- the first number that passes passes, if any of those tried does, and is no later than it
@@ -85,24 +87,19 @@ cofactor a b L e some d h =
     let pe : p * e ≡ b = sym (mul-div_cancel_left (p * e) some) ∙ ap (λ x. x / a) ab ∙ mul-div_cancel_left b some in
     subst (λ x. e ∣ x) pe (dvd-mul_left e p)
 
-zero_divides : (a : ℕ) → a % 0 ≡ 0 → a ≡ 0
-zero_divides a h = sym (mod-zero a) ∙ h
-
 -- the product over the greatest common divisor is the least common multiple
-pub lcm_over : (a b g : ℕ) → 0 < a → 0 < b → a % g ≡ 0 → b % g ≡ 0 → ((d : ℕ) → a % d ≡ 0 → b % d ≡ 0 → g % d ≡ 0) → lcm a b ≡ a * b / g
-lcm_over a b g a-some b-some ga gb greatest =
+pub lcm_over : (a b g : ℕ) → 0 < a → 0 < b → IsGcd a b g → lcm a b ≡ a * b / g
+lcm_over a b g a-some b-some d =
     let L = lcm a b in
     let e = a * b / L in
     let M = a * b / g in
-    let g∣a : g ∣ a = dvd_of_mod-eq-zero g ga in
-    let g∣b : g ∣ b = dvd_of_mod-eq-zero g gb in
+    let g∣a = d.0 in
+    let g∣b = d.1 in
     let ab-some : 0 < a * b = mul-pos a-some b-some in
     let Le : L * e ≡ a * b = mul_comm L e ∙ div-mul_cancel L (lcm∣product a b a-some b-some) in
     let e∣b : e ∣ b = cofactor a b L e a-some (a∣lcm a b a-some b-some) Le in
     let e∣a : e ∣ a = cofactor b a L e b-some (b∣lcm a b a-some b-some) (Le ∙ mul_comm a b) in
-    let g_some : 0 < g = ⊎_elim (λ (none : g < 1). let z : g ≡ 0 = omega arith in let az : a ≡ 0 = zero_divides a (subst (λ x. a % x ≡ 0) z ga) in absurd (omega arith)) (λ (some : 1 ≤ g). some) (cases_lt g 1) in
-    let e∣g : e ∣ g = dvd_of_mod-eq-zero e (greatest e (mod-eq-zero_of_dvd e e∣a) (mod-eq-zero_of_dvd e e∣b)) in
-    let e≤g : e ≤ g = le_of_dvd g_some e∣g in
+    let e≤g : e ≤ g = le_of_dvd (pos_of_dvd_of_pos g∣a a-some) (d.2 e e∣a e∣b) in
     let Mg : M * g ≡ a * b = div-mul_cancel g (dvd-mul_right_of_dvd g g∣a b) in
     let Ma : M ≡ a * (b / g) = mul-div_assoc g a g∣b in
     let Mb : M ≡ b * (a / g) = ap (λ x. x / g) (mul_comm a b) ∙ mul-div_assoc g b g∣a in
@@ -111,10 +108,3 @@ lcm_over a b g a-some b-some ga gb greatest =
     let wide : M * g ≤ L * g = subst (λ x. x ≤ L * g) (Le ∙ sym Mg) (mul-le-mul_left L e≤g) in
     let high : M ≤ L = ⊎_elim (λ (lt : L < M). let more : suc L * g ≤ M * g = mul-le-mul_right g lt in absurd (let s : suc L * g ≡ L * g + g = mul_comm (suc L) g ∙ mul-suc g L ∙ ap (λ x. x + g) (mul_comm g L) in omega arith)) (λ (le : M ≤ L). le) (cases_lt L M) in
     omega arith
-
--- one turn of Euclid's remainders keeps the common divisors
-pub divides_rest : (d a b : ℕ) → a % d ≡ 0 → b % d ≡ 0 → a % b % d ≡ 0
-divides_rest d a b p q = mod-eq-zero_of_dvd d ((dvd-mod_iff d {m = a} {n = b} (dvd_of_mod-eq-zero d q)).1 (dvd_of_mod-eq-zero d p))
-
-pub divides_both : (d a b : ℕ) → b % d ≡ 0 → a % b % d ≡ 0 → a % d ≡ 0
-divides_both d a b q r = mod-eq-zero_of_dvd d ((dvd-mod_iff d {m = a} {n = b} (dvd_of_mod-eq-zero d q)).0 (dvd_of_mod-eq-zero d r))

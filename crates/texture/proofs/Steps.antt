@@ -1,8 +1,12 @@
 -- Steps of a walk over runs: into the next slice, and over one run.
-use Rattle.std.proofs.Common.{◌≡◌, ℕ, suc, ◌+◌, ◌-◌, ◌*◌, ◌≤◌, min, List, [], ◌∷◌, ◌++◌, sym, ap, ◌∙◌, zero-mul, arith}
+use Rattle.std.proofs.Common.{◌≡◌, ℕ, suc, ◌+◌, ◌-◌, ◌*◌, ◌≤◌, min, List, [], ◌∷◌, ◌++◌, length, sym, ap, ◌∙◌, ap₂, le_refl, zero-mul, arith, length-append}
 use native.Mathlib.Nat.{min-le_right}
 use Rattle.texture.specs.Copies.{runs_down, slice_runs}
-use Rattle.texture.proofs.Walks.{runs_next, suc_times}
+use Rattle.std.specs.Int.{div_ceil}
+use Rattle.texture.specs.Walked.{runs_left}
+use Rattle.texture.specs.declared.walk.SurfaceRuns.{SurfaceRuns}
+use Rattle.texture.proofs.Rounded.{div_ceil-blocks}
+use Rattle.texture.proofs.Walks.{runs_next, runs_count, slices_count, suc_times}
 use Rattle.texture.proofs.Follow.{rows_split}
 
 -- the runs of a walk, by its numbers
@@ -48,3 +52,13 @@ all_rows rows slices some =
     let e : slices ≡ suc (slices - 1) = omega arith in
     let m : slices * rows ≡ suc (slices - 1) * rows = ap (λ x. x * rows) e in
     omega (arith, suc_times (slices - 1) rows)
+
+-- how many runs a walk has left
+pub count_left : (w : SurfaceRuns) → length (runs_left w) ≡ div_ceil w.left w.each + w.slices * div_ceil w.rows w.each
+count_left w =
+    let this = runs_down w.left w.each w.wide w.first w.left in
+    let after = slice_runs w.slices w.each w.wide (w.first + w.left * w.wide) w.rows in
+    length-append this after
+    ∙ ap₂ ◌+◌
+    (runs_count w.each w.wide w.whole w.left w.first w.left (le_refl w.left) ∙ sym (div_ceil-blocks w.left w.each w.whole))
+    (slices_count w.each w.wide w.whole w.slices (w.first + w.left * w.wide) w.rows ∙ ap (λ n. w.slices * n) (sym (div_ceil-blocks w.rows w.each w.whole)))

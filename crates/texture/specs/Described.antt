@@ -6,15 +6,7 @@ use Rattle.texture.specs.declared.descriptor.TextureDescriptor.{TextureDescripto
 
 -- the shape of a descriptor
 abbrev pub shape_of : TextureDescriptor → Shape
-shape_of d = record {
-  dimension = d.dimension;
-  format = d.format;
-  mode = d.clear_mode;
-  width = d.width;
-  height = d.height;
-  count = d.count;
-  mips = d.mips;
-}
+shape_of d = d.shape
 
 -- what was made, by its shape
 abbrev pub shape_made : Result TextureDescriptor Refusal → Result Shape Refusal

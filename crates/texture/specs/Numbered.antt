@@ -1,5 +1,6 @@
 -- The numbers by which users name dimensions, formats and ways of clearing, and what seven numbers describe.
 use Rattle.std.specs.Prelude.{ℕ, cond, Some, None, Ok, Err, Option, Result, ◌==◌}
+use Rattle.std.specs.Option.{ok_or}
 use Rattle.fault.specs.declared.refusal.Refusal.{Refusal}
 use Rattle.fault.specs.declared.refusal.Refusal.TheVariants.{BadDescription}
 use Rattle.texture.specs.declared.format.Format.{Format}
@@ -8,7 +9,12 @@ use Rattle.texture.specs.declared.format.Dimension.{Dimension}
 use Rattle.texture.specs.declared.format.Dimension.TheVariants.{D2, D3}
 use Rattle.texture.specs.declared.format.ClearMode.{ClearMode}
 use Rattle.texture.specs.declared.format.ClearMode.TheVariants as mode
+use Rattle.texture.specs.declared.format.UnknownNumber.{UnknownNumber}
 use Rattle.texture.specs.Shapes.{Shape, proper}
+
+-- the case that a number names, or the number as one that names none
+abbrev pub known : {A : Type 0} → ℕ → Option A → Result A UnknownNumber
+known n a = ok_or a (record { 0 = n })
 
 -- dimensions go by their own number
 abbrev pub dimension_of : ℕ → Option Dimension

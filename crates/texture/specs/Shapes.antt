@@ -5,17 +5,12 @@ use Rattle.texture.specs.declared.format.Format.TheVariants.{R8Unorm, Rgba8Unorm
 use Rattle.texture.specs.declared.format.Dimension.{Dimension}
 use Rattle.texture.specs.declared.format.Dimension.TheVariants.{D2, D3}
 use Rattle.texture.specs.declared.format.ClearMode.{ClearMode}
+use Rattle.texture.specs.declared.shape.Shape as declared
 use Rattle.texture.specs.declared.format.ClearMode.TheVariants.{None, Copies, ColourPass, DepthPass}
 
 -- a texture's description; `count` is its layers in dimension 2 and its depth in dimension 3
-pub record Shape : Type 0 where
-  pub dimension : Dimension
-  pub format : Format
-  pub mode : ClearMode
-  pub width : ℕ
-  pub height : ℕ
-  pub count : ℕ
-  pub mips : ℕ
+abbrev pub Shape : Type 0
+Shape = declared.Shape
 
 -- the bytes of one block, and its sides in texels
 abbrev pub block_bytes : Format → ℕ

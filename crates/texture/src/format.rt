@@ -1,9 +1,9 @@
 // What a texture is made of: the formats, dimensions and ways of clearing that there are, and what each asks.
 ghost use Rattle.std.specs.Prelude.{◌≡◌};
 ghost use Rattle.texture.specs.Shapes.{block_bytes, block_width, block_height, suits, flat, flat_mode, flat_format};
-ghost use Rattle.texture.specs.Numbered.{dimension_of, format_of, mode_of};
+ghost use Rattle.texture.specs.Numbered.{known, dimension_of, format_of, mode_of};
 
-#[derive(Clone, Copy)]
+#[derive(Clone, Copy, Debug, PartialEq, Eq)]
 pub enum Format {
     R8Unorm,
     Rgba8Unorm,
@@ -13,14 +13,14 @@ pub enum Format {
     Depth32Float,
 }
 
-#[derive(Clone, Copy)]
+#[derive(Clone, Copy, Debug, PartialEq, Eq)]
 pub enum Dimension {
     D2,
     D3,
 }
 
 // How surfaces are cleared: not at all, by copies of zeros, or by a pass that draws to them.
-#[derive(Clone, Copy)]
+#[derive(Clone, Copy, Debug, PartialEq, Eq)]
 pub enum ClearMode {
     None,
     Copies,
@@ -28,22 +28,59 @@ pub enum ClearMode {
     DepthPass,
 }
 
-impl Format {
-    // The format of a number, if there is one.
-    pub fn numbered(number: u8) -> Option<Format>
-        ensures { result ≡ format_of number }
-    {
+// A number that names no format, no dimension or no way of clearing.
+#[derive(Clone, Copy, Debug, PartialEq, Eq)]
+pub struct UnknownNumber(pub u8);
+
+impl TryFrom<u8> for Format {
+    type Error = UnknownNumber;
+
+    ghost try_from_gives = { λ number named. named ≡ known number (format_of number) };
+
+    fn try_from(number: u8) -> Result<Format, UnknownNumber> {
         match number {
-            0 => Some(Format::R8Unorm),
-            1 => Some(Format::Rgba8Unorm),
-            2 => Some(Format::Rgba32Float),
-            3 => Some(Format::Bc1RgbaUnorm),
-            4 => Some(Format::Astc6x5Unorm),
-            5 => Some(Format::Depth32Float),
-            _ => None,
+            0 => Ok(Format::R8Unorm),
+            1 => Ok(Format::Rgba8Unorm),
+            2 => Ok(Format::Rgba32Float),
+            3 => Ok(Format::Bc1RgbaUnorm),
+            4 => Ok(Format::Astc6x5Unorm),
+            5 => Ok(Format::Depth32Float),
+            _ => Err(UnknownNumber(number)),
         }
     }
+}
 
+impl TryFrom<u8> for Dimension {
+    type Error = UnknownNumber;
+
+    ghost try_from_gives = { λ number named. named ≡ known number (dimension_of number) };
+
+    fn try_from(number: u8) -> Result<Dimension, UnknownNumber> {
+        match number {
+            2 => Ok(Dimension::D2),
+            3 => Ok(Dimension::D3),
+            _ => Err(UnknownNumber(number)),
+        }
+    }
+}
+
+impl TryFrom<u8> for ClearMode {
+    type Error = UnknownNumber;
+
+    ghost try_from_gives = { λ number named. named ≡ known number (mode_of number) };
+
+    fn try_from(number: u8) -> Result<ClearMode, UnknownNumber> {
+        match number {
+            0 => Ok(ClearMode::None),
+            1 => Ok(ClearMode::Copies),
+            2 => Ok(ClearMode::ColourPass),
+            3 => Ok(ClearMode::DepthPass),
+            _ => Err(UnknownNumber(number)),
+        }
+    }
+}
+
+impl Format {
     // The bytes of one block.
     pub fn block_bytes(self) -> u32
         ensures { result ≡ block_bytes self }
@@ -82,63 +119,35 @@ impl Format {
     pub fn is_flat(self) -> bool
         ensures { result ≡ flat_format self }
     {
-        match self {
-            Format::Bc1RgbaUnorm | Format::Astc6x5Unorm | Format::Depth32Float => true,
-            _ => false,
-        }
+        matches!(
+            self,
+            Format::Bc1RgbaUnorm | Format::Astc6x5Unorm | Format::Depth32Float
+        )
     }
 }
 
 impl Dimension {
-    // The dimension of a number, if there is one.
-    pub fn numbered(number: u8) -> Option<Dimension>
-        ensures { result ≡ dimension_of number }
-    {
-        match number {
-            2 => Some(Dimension::D2),
-            3 => Some(Dimension::D3),
-            _ => None,
-        }
-    }
-
     // Whether textures are flat, with layers and no depth.
     pub fn is_flat(self) -> bool
         ensures { result ≡ flat self }
     {
-        match self {
-            Dimension::D2 => true,
-            Dimension::D3 => false,
-        }
+        self == Dimension::D2
     }
 }
 
 impl ClearMode {
-    // The way of clearing of a number, if there is one.
-    pub fn numbered(number: u8) -> Option<ClearMode>
-        ensures { result ≡ mode_of number }
-    {
-        match number {
-            0 => Some(ClearMode::None),
-            1 => Some(ClearMode::Copies),
-            2 => Some(ClearMode::ColourPass),
-            3 => Some(ClearMode::DepthPass),
-            _ => None,
-        }
-    }
-
     // Whether textures of a format can be cleared so.
     pub fn suits(self, format: Format) -> bool
         ensures { result ≡ suits self format }
     {
-        match (self, format) {
-            (ClearMode::None, _) => true,
-            (ClearMode::Copies, Format::Depth32Float) => false,
-            (ClearMode::Copies, _) => true,
-            (ClearMode::ColourPass, Format::R8Unorm | Format::Rgba8Unorm | Format::Rgba32Float) =>
-                true,
-            (ClearMode::ColourPass, _) => false,
-            (ClearMode::DepthPass, Format::Depth32Float) => true,
-            (ClearMode::DepthPass, _) => false,
+        match self {
+            ClearMode::None => true,
+            ClearMode::Copies => format != Format::Depth32Float,
+            ClearMode::ColourPass => matches!(
+                format,
+                Format::R8Unorm | Format::Rgba8Unorm | Format::Rgba32Float
+            ),
+            ClearMode::DepthPass => format == Format::Depth32Float,
         }
     }
 
@@ -146,9 +155,6 @@ impl ClearMode {
     pub fn is_pass(self) -> bool
         ensures { result ≡ flat_mode self }
     {
-        match self {
-            ClearMode::ColourPass | ClearMode::DepthPass => true,
-            ClearMode::None | ClearMode::Copies => false,
-        }
+        matches!(self, ClearMode::ColourPass | ClearMode::DepthPass)
     }
 }

@@ -5,9 +5,12 @@ mod alignment;
 mod descriptor;
 mod format;
 mod meaning;
+mod pitch;
+mod shape;
 mod walk;
 
-pub use descriptor::TextureDescriptor;
-pub use format::{ClearMode, Dimension, Format};
+pub use descriptor::{TextureDescriptor, TextureNumbers};
+pub use format::{ClearMode, Dimension, Format, UnknownNumber};
 pub use meaning::{clears_stand, tiling_stands, trials_stand};
+pub use shape::Shape;
 pub use walk::{Run, SurfaceRuns};

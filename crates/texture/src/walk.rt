@@ -4,7 +4,7 @@ ghost use Rattle.std.specs.Prelude.{ℕ, ◌+◌, ◌*◌, ◌≤◌};
 mod step;
 
 // Cells that one command clears.
-#[derive(Clone, Copy)]
+#[derive(Clone, Copy, Debug, PartialEq, Eq)]
 pub struct Run {
     pub first: u64,
     pub count: u64,
@@ -12,7 +12,7 @@ pub struct Run {
 
 // What is left of a surface's runs: `left` rows of this slice from the cell `first` on, `each` rows a run, and then
 // `slices` whole slices of `rows` rows; a row has `wide` cells.
-#[derive(Clone, Copy)]
+#[derive(Clone, Copy, Debug, PartialEq, Eq)]
 pub struct SurfaceRuns {
     first: u64,
     wide: u64,

@@ -1,11 +1,11 @@
 // Where a texture's cells lie: the sizes of mips and surfaces, and where each begins.
-ghost use Rattle.std.specs.Prelude.{◌≡◌, ◌+◌, ◌<◌, ◌≤◌};
-ghost use Rattle.texture.specs.Shapes.{Shape, layers_of};
-ghost use Rattle.texture.specs.Cells.{side, across as acrossOf, down as downOf, slices as slicesOf, surface_cells, mip_first, cells_of};
+ghost use Rattle.std.specs.Prelude.{◌≡◌, ◌≤◌};
+ghost use Rattle.texture.specs.Cells.{side as sideOf, across as acrossOf, down as downOf, slices as slicesOf, surface_cells, mip_first, cells_of};
 ghost use Rattle.texture.specs.Tiles.{first_in, is_surface};
 ghost use Rattle.texture.specs.Described.{shape_of};
 
 use crate::descriptor::TextureDescriptor;
+use crate::shape::halved;
 
 impl TextureDescriptor {
     // The blocks across a mip.
@@ -13,8 +13,7 @@ impl TextureDescriptor {
         ensures answer { result ≡ acrossOf (shape_of self) mip }
         ensures few { result ≤ 16384 }
     {
-        let block = self.format.block_width();
-        (halved(self.width, mip) + (block - 1)) / block
+        mip_side(self.shape.width, mip).div_ceil(self.shape.format.block_width())
     }
 
     // The blocks down a mip.
@@ -22,8 +21,7 @@ impl TextureDescriptor {
         ensures answer { result ≡ downOf (shape_of self) mip }
         ensures few { result ≤ 16384 }
     {
-        let block = self.format.block_height();
-        (halved(self.height, mip) + (block - 1)) / block
+        mip_side(self.shape.height, mip).div_ceil(self.shape.format.block_height())
     }
 
     // The slices of a mip: a flat texture has one.
@@ -31,7 +29,7 @@ impl TextureDescriptor {
         ensures answer { result ≡ slicesOf (shape_of self) mip }
         ensures few { result ≤ 64 }
     {
-        halved(self.depth(), mip)
+        mip_side(self.depth(), mip)
     }
 
     // The cells of one surface of a mip.
@@ -47,14 +45,14 @@ impl TextureDescriptor {
         ensures answer { result ≡ cells_of (shape_of self) }
         ensures few { result ≤ 1099511627776 }
     {
-        mip_first(self, self.mips)
+        self.mip_first(self.shape.mips)
     }
 
     // Whether the texture has a surface of that mip and layer.
     pub fn has_surface(self, mip: u32, layer: u32) -> bool
         ensures { result ≡ is_surface (shape_of self) mip layer }
     {
-        mip < self.mips && layer < self.layers()
+        mip < self.shape.mips && layer < self.layers()
     }
 
     // The first cell of a surface, if the texture has it.
@@ -62,31 +60,29 @@ impl TextureDescriptor {
         ensures { result ≡ first_in (shape_of self) mip layer }
     {
         if self.has_surface(mip, layer) {
-            return Some(mip_first(self, mip) + layer as u64 * self.surface_cells(mip));
+            Some(self.mip_first(mip) + layer as u64 * self.surface_cells(mip))
+        } else {
+            None
         }
-        None
+    }
+
+    // The first cell of a mip, or the end of the last.
+    fn mip_first(self, mip: u32) -> u64
+        requires { mip ≤ (shape_of self).mips }
+        ensures { result ≡ mip_first (shape_of self) mip }
+    {
+        let layers = self.layers() as u64;
+        let mut first = 0;
+        for m in 0..mip {
+            first += layers * self.surface_cells(m);
+        }
+        first
     }
 }
 
-// A side halved so often, at least 1.
-fn halved(n: u32, mip: u32) -> u32
-    ensures { result ≡ side n mip }
+// A side of a mip, at least 1.
+fn mip_side(side: u32, mip: u32) -> u32
+    ensures { result ≡ sideOf side mip }
 {
-    if mip > 31 {
-        return 1;
-    }
-    (n >> mip).max(1)
-}
-
-// The first cell of a mip, or the end of the last.
-fn mip_first(descriptor: TextureDescriptor, mip: u32) -> u64
-    requires { mip ≤ (shape_of descriptor).mips }
-    ensures { result ≡ mip_first (shape_of descriptor) mip }
-{
-    let layers = descriptor.layers() as u64;
-    let mut first = 0;
-    for m in 0..mip {
-        first += layers * descriptor.surface_cells(m);
-    }
-    first
+    halved(side, mip).max(1)
 }

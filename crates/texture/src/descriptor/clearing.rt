@@ -1,17 +1,15 @@
 // In which runs a surface is cleared: copies of whole rows from a buffer of zeros, or one pass.
-ghost use Rattle.std.specs.Prelude.{◌≡◌, ℕ, ◌+◌, ◌≤◌, true};
-ghost use Rattle.texture.specs.Shapes.{Shape};
+ghost use Rattle.std.specs.Prelude.{◌≡◌, ◌+◌, ◌≤◌};
 ghost use Rattle.texture.specs.Cells.{across, down, slices, surface_cells};
 ghost use Rattle.texture.specs.Copies.{bytes_per_row, block_rows_per_copy, slice_runs};
-ghost use Rattle.texture.specs.Runs.{pitch_fits, runs_in};
+ghost use Rattle.texture.specs.Runs.{runs_in};
 ghost use Rattle.texture.specs.Described.{shape_of};
 ghost use Rattle.texture.specs.Walked.{runs_left, runs_found};
 
-use crate::alignment::{aligned, common_multiple};
+use crate::alignment::common_multiple;
 use crate::descriptor::TextureDescriptor;
+use crate::pitch::Pitch;
 use crate::{ClearMode, SurfaceRuns};
-
-const MAX_PITCH: u32 = 256;
 
 const ZERO_BYTES: u32 = 524288;
 
@@ -20,53 +18,44 @@ impl TextureDescriptor {
     pub fn clear_runs(self, pitch: u32, mip: u32, layer: u32) -> Option<SurfaceRuns>
         ensures { runs_found result ≡ runs_in pitch (shape_of self) mip layer }
     {
-        if pitch < 1 || pitch > MAX_PITCH {
-            return None;
-        }
-        let Some(first) = self.surface_first(mip, layer) else {
-            return None;
-        };
-        match self.clear_mode {
+        let pitch = Pitch::new(pitch)?;
+        let first = self.surface_first(mip, layer)?;
+        match self.shape.mode {
             ClearMode::None => Some(SurfaceRuns::over(first, 1, 1, 1, 0)),
-            ClearMode::Copies => Some(copies(self, pitch, mip, first)),
+            ClearMode::Copies => Some(self.copies(pitch, mip, first)),
             ClearMode::ColourPass | ClearMode::DepthPass => {
                 Some(SurfaceRuns::over(first, self.surface_cells(mip), 1, 1, 1))
             }
         }
     }
-}
 
-// The copies of a surface whose first cell is known.
-fn copies(descriptor: TextureDescriptor, pitch: u32, mip: u32, first: u64) -> SurfaceRuns
-    requires pitch { pitch_fits pitch ≡ true }
-    requires within { first + surface_cells (shape_of descriptor) mip ≤ 1099511627776 }
-    ensures { runs_left result ≡ slice_runs (slices (shape_of descriptor) mip) (block_rows_per_copy pitch (shape_of descriptor) mip) (across (shape_of descriptor) mip) first (down (shape_of descriptor) mip) }
-{
-    SurfaceRuns::over(
-        first,
-        descriptor.across(mip) as u64,
-        block_rows(descriptor, pitch, mip) as u64,
-        descriptor.down(mip) as u64,
-        descriptor.slices(mip) as u64,
-    )
-}
+    // The copies of a surface whose first cell is known.
+    fn copies(self, pitch: Pitch, mip: u32, first: u64) -> SurfaceRuns
+        requires { first + surface_cells (shape_of self) mip ≤ 1099511627776 }
+        ensures { runs_left result ≡ slice_runs (slices (shape_of self) mip) (block_rows_per_copy pitch.bytes (shape_of self) mip) (across (shape_of self) mip) first (down (shape_of self) mip) }
+    {
+        SurfaceRuns::over(
+            first,
+            self.across(mip) as u64,
+            self.block_rows(pitch, mip) as u64,
+            self.down(mip) as u64,
+            self.slices(mip) as u64,
+        )
+    }
 
-// The rows of blocks that one copy has.
-fn block_rows(descriptor: TextureDescriptor, pitch: u32, mip: u32) -> u32
-    requires { pitch_fits pitch ≡ true }
-    ensures { result ≡ block_rows_per_copy pitch (shape_of descriptor) mip }
-{
-    ZERO_BYTES / row_bytes(descriptor, pitch, mip) / descriptor.format.block_height()
-}
+    // The rows of blocks that one copy has.
+    fn block_rows(self, pitch: Pitch, mip: u32) -> u32
+        ensures { result ≡ block_rows_per_copy pitch.bytes (shape_of self) mip }
+    {
+        ZERO_BYTES / self.row_bytes(pitch, mip) / self.shape.format.block_height()
+    }
 
-// The bytes of a row in the buffer of zeros.
-fn row_bytes(descriptor: TextureDescriptor, pitch: u32, mip: u32) -> u32
-    requires { pitch_fits pitch ≡ true }
-    ensures { result ≡ bytes_per_row pitch (shape_of descriptor) mip }
-{
-    let bytes = descriptor.format.block_bytes();
-    aligned(
-        common_multiple(pitch, bytes),
-        descriptor.across(mip) * bytes,
-    )
+    // The bytes of a row in the buffer of zeros.
+    fn row_bytes(self, pitch: Pitch, mip: u32) -> u32
+        ensures { result ≡ bytes_per_row pitch.bytes (shape_of self) mip }
+    {
+        let block = self.shape.format.block_bytes();
+        let row = self.across(mip) * block;
+        row.next_multiple_of(common_multiple(pitch.bytes(), block))
+    }
 }

@@ -1,8 +1,8 @@
 // The steps of a walk over the runs of a surface.
 ghost use Rattle.std.specs.Prelude.{◌≡◌, ℕ, ◌+◌, ◌*◌, ◌≤◌, [], length};
+ghost use Rattle.std.specs.Iterator.{YieldsFirstBy, item_count};
 ghost use Rattle.texture.specs.Copies.{slice_runs};
-ghost use Rattle.texture.specs.Runs.{first_run, rest_runs};
-ghost use Rattle.texture.specs.Walked.{runs_left, run_taken};
+ghost use Rattle.texture.specs.Walked.{cells_of_run, runs_left};
 
 use crate::walk::{Run, SurfaceRuns};
 
@@ -25,20 +25,29 @@ impl SurfaceRuns {
         }
     }
 
-    // How many runs are left.
-    pub fn count(self) -> u64
-        ensures { result ≡ length (runs_left self) }
+    // The same runs, with a row left in this slice if any run is left.
+    fn in_slice(mut self) -> SurfaceRuns
+        ensures same { runs_left result ≡ runs_left self }
+        ensures ended { result.left ≡ 0 → runs_left result ≡ [] }
     {
-        (self.left + (self.each - 1)) / self.each
-            + self.slices * ((self.rows + (self.each - 1)) / self.each)
+        if self.left == 0 && self.slices > 0 {
+            self.left = self.rows;
+            self.slices -= 1;
+        }
+        self
     }
+}
+
+impl Iterator for SurfaceRuns {
+    type Item = Run;
+
+    ghost next_gives = { YieldsFirstBy cells_of_run runs_left };
+
+    ghost remaining = { item_count runs_left };
 
     // Takes the next run, if one is left.
-    pub fn next(&mut self) -> Option<Run>
-        ensures answer { run_taken result ≡ first_run (runs_left self.old) }
-        ensures after { runs_left self.new ≡ rest_runs (runs_left self.old) }
-    {
-        let walk = in_slice(*self);
+    fn next(&mut self) -> Option<Run> {
+        let mut walk = self.in_slice();
         if walk.left == 0 {
             return None;
         }
@@ -47,32 +56,22 @@ impl SurfaceRuns {
             first: walk.first,
             count: rows * walk.wide,
         };
-        *self = SurfaceRuns {
-            first: walk.first + run.count,
-            wide: walk.wide,
-            each: walk.each,
-            left: walk.left - rows,
-            rows: walk.rows,
-            slices: walk.slices,
-        };
+        walk.first += run.count;
+        walk.left -= rows;
+        *self = walk;
         Some(run)
+    }
+
+    fn size_hint(&self) -> (usize, Option<usize>) {
+        let left = self.len();
+        (left, Some(left))
     }
 }
 
-// The same runs, with a row left in this slice if any run is left.
-fn in_slice(walk: SurfaceRuns) -> SurfaceRuns
-    ensures same { runs_left result ≡ runs_left walk }
-    ensures ended { result.left ≡ 0 → runs_left result ≡ [] }
-{
-    if walk.left > 0 || walk.slices == 0 {
-        return walk;
-    }
-    SurfaceRuns {
-        first: walk.first,
-        wide: walk.wide,
-        each: walk.each,
-        left: walk.rows,
-        rows: walk.rows,
-        slices: walk.slices - 1,
+impl ExactSizeIterator for SurfaceRuns {
+    // How many runs are left.
+    #[tactic(auto, using(crate::proofs::Steps::count_left))]
+    fn len(&self) -> usize {
+        (self.left.div_ceil(self.each) + self.slices * self.rows.div_ceil(self.each)) as usize
     }
 }

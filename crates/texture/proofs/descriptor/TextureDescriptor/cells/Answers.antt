@@ -1,9 +1,7 @@
-use Rattle.std.proofs.Common.{◌≤◌, sym, subst}
+use Rattle.std.proofs.Common.{arith}
 use Rattle.texture.specs.Described.{shape_of}
 use Rattle.texture.proofs.Sides.{cells_few}
 use Rattle.texture.proofs.descriptor.TextureDescriptor.cells.Goals as goal
 
-pub returns : goal.returns
-returns c =
-    let s = shape_of c.args.self in
-    record { answer = c.mip_first.ensures; few = subst (λ n. n ≤ 1099511627776) (sym c.mip_first.ensures) (cells_few s c.args.self.fit) }
+pub returns-clause-few : goal.returns-clause-few
+returns-clause-few c = omega (arith, c.mip_first.ensures, cells_few (shape_of c.args.self) c.args.self.fit)
