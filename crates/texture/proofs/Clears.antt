@@ -1,11 +1,10 @@
 -- The runs that clear a surface are exactly its cells.
-use Rattle.std.proofs.Common.{◌≡◌, ℕ, ◌+◌, true, ◌&&◌, ◌⊎◌, List, [], ◌∷◌, Some, None as Nothing, sym, refl, ap, ◌∙◌, ⊎_elim, one-mul, arith}
-use Rattle.std.proofs.lemmas.Bool.{false≢true, and_from, cond-true}
-use Rattle.texture.specs.Tiles.{is_surface}
+use Rattle.std.proofs.Common.{◌≡◌, ℕ, ◌+◌, true, List, [], ◌∷◌, refl, arith}
+use Rattle.std.proofs.lemmas.Bool.{false≢true}
 use Rattle.texture.specs.Shapes.{Shape, proper}
 use Rattle.texture.specs.Cells.{across, down, slices, surface_first, surface_cells, in_surface}
-use Rattle.texture.specs.Copies.{block_rows_per_copy, copy_runs, by_mode, clear_runs, slice_runs}
-use Rattle.texture.specs.Runs.{Consecutive, in_runs, run_cells, clears, pitch_fits, runs_in}
+use Rattle.texture.specs.Copies.{block_rows_per_copy, copy_runs, by_mode, clear_runs}
+use Rattle.texture.specs.Runs.{Consecutive, in_runs, run_cells, clears, pitch_fits}
 use Rattle.texture.specs.declared.format.ClearMode.{ClearMode}
 use Rattle.texture.specs.declared.format.ClearMode.TheVariants.{None, Copies, ColourPass, DepthPass}
 use Rattle.texture.proofs.Sides.{across_some, surface_some}
@@ -34,19 +33,3 @@ module _ (pitch : ℕ) (s : Shape) (m l : ℕ) (h : proper s ≡ true) (fits : p
 
     pub clears_total : run_cells (clear_runs pitch s m l) ≡ surface_cells s m
     clears_total = omega (arith, follow_total (surface_first s m l) (surface_first s m l + surface_cells s m) (clear_runs pitch s m l) clears_follow)
-
--- a texture that is cleared by passes has one run a surface
-pub pass_runs : (pitch : ℕ) (s : Shape) (m l : ℕ) → (s.mode ≡ ColourPass) ⊎ (s.mode ≡ DepthPass) → clear_runs pitch s m l ≡ (surface_first s m l, surface_cells s m) ∷ []
-pass_runs pitch s m l by =
-    let a = copy_runs pitch s m l in
-    let b = (surface_first s m l, surface_cells s m) ∷ [] in
-    ⊎_elim (λ (e : s.mode ≡ ColourPass). ap (λ c. by_mode c a b) e) (λ (e : s.mode ≡ DepthPass). ap (λ c. by_mode c a b) e) by
-
--- the walk of a single run
-pub single_run : (n first : ℕ) → slice_runs 1 1 n first 1 ≡ (first, n) ∷ []
-single_run n first = ap (λ x. (first, x) ∷ []) (one-mul n)
-
--- where the pitch and the surface are as they must be, there are runs
-pub runs_found_lem : (pitch : ℕ) (s : Shape) (m l : ℕ) (rs : List (ℕ × ℕ)) → pitch_fits pitch ≡ true → is_surface s m l ≡ true → rs ≡ clear_runs pitch s m l → Some rs ≡ runs_in pitch s m l
-runs_found_lem pitch s m l rs fits named e =
-    ap (λ xs. Some xs) e ∙ sym (cond-true (pitch_fits pitch && is_surface s m l) (Some (clear_runs pitch s m l)) Nothing (and_from (pitch_fits pitch) (is_surface s m l) fits named))

@@ -1,11 +1,12 @@
 -- Runs that follow each other: they are every cell from the first to the end, each once.
 use Rattle.std.proofs.Common.{◌≡◌, ℕ, zero, suc, ◌+◌, ◌-◌, ◌*◌, ◌≤◌, min, cond, ◌&&◌, ◌||◌, ltb, leb, List, [], ◌∷◌, ◌++◌, sym, refl, ap, ◌∙◌, subst, le_refl, add-mul, mul-pos, zero-mul, arith}
+use Rattle.std.proofs.Math.Nat.{suc-mul}
 use native.Mathlib.Nat.{min-le_right}
 use lib.Dec.{eqb-suc-zero}
 use Rattle.std.proofs.lemmas.Bool.Decides.{nat_tests}
 use Rattle.texture.specs.Copies.{runs_down, slice_runs}
 use Rattle.texture.specs.Runs.{Consecutive, in_runs, run_cells}
-use Rattle.texture.proofs.Walks.{no_rows, suc_times, takes_some}
+use Rattle.texture.proofs.Walks.{no_rows, takes_some}
 
 pub follow_join : (a b c : ℕ) (rs ss : List (ℕ × ℕ)) → Consecutive a b rs → Consecutive b c ss → Consecutive a c (rs ++ ss)
 follow_join a b c [] ss e k = subst (λ x. Consecutive x c ss) (sym e) k
@@ -55,7 +56,7 @@ module _ (each wide : ℕ) (some : 1 ≤ each) (cells : 1 ≤ wide) where
   slices_follow zero first rows = omega (arith, zero-mul (rows * wide))
   slices_follow (suc n) first rows =
       let q = rows * wide in
-      let e : first + q + n * q ≡ first + suc n * q = omega (arith, suc_times n q) in
+      let e : first + q + n * q ≡ first + suc n * q = omega (arith, suc-mul n q) in
       follow_join first (first + q) (first + suc n * q) (runs_down rows each wide first rows) (slice_runs n each wide (first + q) rows)
       (down_follow rows first rows (le_refl rows))
       (subst (λ x. Consecutive (first + q) x (slice_runs n each wide (first + q) rows)) e (slices_follow n (first + q) rows))

@@ -1,9 +1,9 @@
 -- The least common multiple: what the definition finds is least, and it is the product over the greatest common divisor.
-use Rattle.std.proofs.Common.{◌≡◌, ℕ, zero, suc, ◌+◌, ◌-◌, ◌*◌, ◌/◌, ◌%◌, ◌<◌, ◌≤◌, Bool, true, false, cond, ◌&&◌, eqb, sym, ap, ◌∙◌, subst, ⊎_elim, le_refl, mul-le-mul_right, mod-lt, mul_assoc, mul_comm, mul-le-mul_left, mul-pos, mul-suc, div-le_self, arith}
+use Rattle.std.proofs.Common.{◌≡◌, ℕ, zero, suc, ◌+◌, ◌-◌, ◌*◌, ◌/◌, ◌%◌, ◌<◌, ◌≤◌, Bool, true, false, cond, ◌&&◌, eqb, sym, ap, ◌∙◌, subst, ⊎_elim, le_refl, mul-le-mul_right, mod-lt, mul_assoc, mul_comm, mul-le-mul_left, mul-pos, div-le_self, arith}
 use Prim.Native.Nat.{◌∣◌}
 use native.Mathlib.Nat.{le_of_dvd, dvd-mul_left, dvd-mul_right, dvd-sub, dvd-mul_right_of_dvd, dvd_of_mod-eq-zero, mod-eq-zero_of_dvd, div-mul_cancel, mul-div_assoc, mod_def, mul-div_cancel_left}
 use Rattle.std.proofs.lemmas.Bool.{and_parts, and_from, eqb-true, eq-eqb, cases_Bool, cases_lt, cases_order, true≢false}
-use Rattle.std.proofs.Math.Nat.{pos_of_dvd_of_pos}
+use Rattle.std.proofs.Math.Nat.{suc-mul, pos_of_dvd_of_pos}
 use Rattle.std.specs.Int.{IsGcd}
 use Rattle.texture.specs.Copies.{first_passing, common_multiple, lcm}
 
@@ -106,5 +106,5 @@ lcm_over a b g a-some b-some d =
     let M-some : 0 < M = ⊎_elim (λ (none : M < 1). let z : M ≡ 0 = omega arith in let zz : 0 * g ≡ a * b = subst (λ x. x * g ≡ a * b) z Mg in absurd (omega arith)) (λ (some : 1 ≤ M). some) (cases_lt M 1) in
     let low : L ≤ M = lcm_least a b a-some b-some M M-some (div-le_self (a * b) g) (subst (λ x. a ∣ x) (sym Ma) (dvd-mul_right a (b / g))) (subst (λ x. b ∣ x) (sym Mb) (dvd-mul_right b (a / g))) in
     let wide : M * g ≤ L * g = subst (λ x. x ≤ L * g) (Le ∙ sym Mg) (mul-le-mul_left L e≤g) in
-    let high : M ≤ L = ⊎_elim (λ (lt : L < M). let more : suc L * g ≤ M * g = mul-le-mul_right g lt in absurd (let s : suc L * g ≡ L * g + g = mul_comm (suc L) g ∙ mul-suc g L ∙ ap (λ x. x + g) (mul_comm g L) in omega arith)) (λ (le : M ≤ L). le) (cases_lt L M) in
+    let high : M ≤ L = ⊎_elim (λ (lt : L < M). let more : suc L * g ≤ M * g = mul-le-mul_right g lt in absurd (let s : suc L * g ≡ L * g + g = suc-mul L g in omega arith)) (λ (le : M ≤ L). le) (cases_lt L M) in
     omega arith

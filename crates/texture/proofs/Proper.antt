@@ -1,7 +1,7 @@
 -- What a proper shape keeps to, limit by limit.
 use Rattle.std.proofs.Common.{◌≡◌, ℕ, ◌-◌, ◌*◌, ◌/◌, ◌%◌, ◌^◌, ◌<◌, ◌≤◌, Bool, true, false, cond, ◌&&◌, ◌||◌, eqb, leb, ⊎_elim, lt_of_lt_of_le, arith, pow_mono}
 use native.Mathlib.Nat.{div-eq_of_lt, max-le}
-use Rattle.std.proofs.lemmas.Bool.{and_parts, leb-true, eqb-true, cases_lt}
+use Rattle.std.proofs.lemmas.Bool.{and_parts, leb-true, cases_lt}
 use Rattle.texture.specs.Shapes.{Shape, block_width, block_height, suits, flat, flat_mode, flat_format, between, layers_of, depth_of, largest, proper}
 
 pub between_parts : (lo hi n : ℕ) → between lo hi n ≡ true → (lo ≤ n) × (n ≤ hi)
@@ -44,35 +44,17 @@ module _ (s : Shape) (h : proper s ≡ true) where
   at_suited : suited_part s ≡ true
   at_suited = (and_parts (between 1 64 s.count) (suited_part s) at_count).1
 
-  pub mode_kept : suits s.mode s.format ≡ true
-  mode_kept = (and_parts (suits s.mode s.format) (dimension_part s && block_part s) at_suited).0
-
   at_dimension : (dimension_part s && block_part s) ≡ true
   at_dimension = (and_parts (suits s.mode s.format) (dimension_part s && block_part s) at_suited).1
-
-  pub dimension_kept : (flat s.dimension || cond (flat_mode s.mode) false (cond (flat_format s.format) false true)) ≡ true
-  dimension_kept = (and_parts (dimension_part s) (block_part s) at_dimension).0
 
   at_block : block_part s ≡ true
   at_block = (and_parts (dimension_part s) (block_part s) at_dimension).1
 
-  pub width_whole : s.width % block_width s.format ≡ 0
-  width_whole = eqb-true (s.width % block_width s.format) 0 (and_parts (eqb (s.width % block_width s.format) 0) (eqb (s.height % block_height s.format) 0 && mips_part s) at_block).0
-
   at_block_height : (eqb (s.height % block_height s.format) 0 && mips_part s) ≡ true
   at_block_height = (and_parts (eqb (s.width % block_width s.format) 0) (eqb (s.height % block_height s.format) 0 && mips_part s) at_block).1
 
-  pub height_whole : s.height % block_height s.format ≡ 0
-  height_whole = eqb-true (s.height % block_height s.format) 0 (and_parts (eqb (s.height % block_height s.format) 0) (mips_part s) at_block_height).0
-
   at_mips : mips_part s ≡ true
   at_mips = (and_parts (eqb (s.height % block_height s.format) 0) (mips_part s) at_block_height).1
-
-  -- one of the two is 1, so that together they are at most 64
-  pub layers_kept : (1 ≤ layers_of s) × (layers_of s ≤ 64)
-  layers_kept =
-      let k = count_kept in
-      elim (flat s.dimension) as (λ b. (1 ≤ cond b s.count 1) × (cond b s.count 1 ≤ 64)) [ true ↦ k | false ↦ (omega arith, omega arith) ]
 
   pub depth_kept : (1 ≤ depth_of s) × (depth_of s ≤ 64)
   depth_kept =

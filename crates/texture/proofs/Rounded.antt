@@ -1,5 +1,6 @@
 -- The library's roundings up, as the definitions write them.
-use Rattle.std.proofs.Common.{◌≡◌, ℕ, suc, ◌+◌, ◌-◌, ◌*◌, ◌/◌, ◌%◌, ◌<◌, ◌≤◌, ap, ◌∙◌, sym, mul_comm, mul-suc, arith}
+use Rattle.std.proofs.Common.{◌≡◌, ℕ, ◌+◌, ◌-◌, ◌*◌, ◌/◌, ◌%◌, ◌<◌, ◌≤◌, ap, ◌∙◌, sym, arith}
+use Rattle.std.proofs.Math.Nat.{suc-mul}
 use native.Mathlib.Nat.{div-eq_of_lt-le, div-mul_cancel}
 use Rattle.std.proofs.lemmas.Grind.{div_ceil_times}
 use Rattle.std.proofs.lemmas.Nat.Gcd.{dvd_of_mod-eq-zero}
@@ -7,13 +8,10 @@ use Rattle.std.specs.Int.{div_ceil}
 use Rattle.texture.specs.Cells.{blocks}
 use Rattle.texture.specs.Copies.{aligned_to}
 
-suc_times : (n q : ℕ) → suc n * q ≡ n * q + q
-suc_times n q = mul_comm (suc n) q ∙ mul-suc q n ∙ ap (λ x. x + q) (mul_comm q n)
-
 -- the quotient of what is at most k - 1 above a multiple of k
 quotient : (n k q : ℕ) → 0 < k → n ≤ q * k → q * k < n + k → (n + (k - 1)) / k ≡ q
 quotient n k q some low high =
-    div-eq_of_lt-le {k = q} k (omega arith) (omega (arith, suc_times q k))
+    div-eq_of_lt-le {k = q} k (omega arith) (omega (arith, suc-mul q k))
 
 pub div_ceil-blocks : (n k : ℕ) → 0 < k → div_ceil n k ≡ blocks n k
 div_ceil-blocks n k some =

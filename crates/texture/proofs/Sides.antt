@@ -1,6 +1,8 @@
 -- Sides, blocks and surfaces: at least one of each, and no more than the first mip has.
-use Rattle.std.proofs.Common.{◌≡◌, ℕ, zero, suc, ◌*◌, ◌/◌, ◌^◌, ◌≤◌, true, le_trans, mul_assoc, mul-le-mul, mul-le-mul_left, mul-pos, div-le_self, arith}
+use Rattle.std.proofs.Common.{◌≡◌, ℕ, zero, suc, ◌+◌, ◌*◌, ◌/◌, ◌^◌, ◌≤◌, true, le_trans, mul_assoc, mul-le-mul, mul-le-mul_left, mul-pos, div-le_self, sym, refl, ap, ◌∙◌, map, add-one, arith}
 use native.Mathlib.Nat.{max-le, le-max_left}
+use Rattle.std.specs.List.{sum, range_with_len}
+use Rattle.std.proofs.lemmas.List.FromFn.{sum_by-map-range_with_len_more}
 use Rattle.texture.specs.Shapes.{Shape, block_width, block_height, layers_of, depth_of, proper}
 use Rattle.texture.specs.Cells.{side, blocks, across, down, slices, surface_cells, mip_first, cells_of}
 use Rattle.texture.specs.declared.format.Format.{Format}
@@ -60,9 +62,6 @@ module _ (s : Shape) (h : proper s ≡ true) where
   pub slice_few : (m : ℕ) → down s m * across s m ≤ 268435456
   slice_few m = mul-le-mul (down_few m) (across_few m)
 
-  pub surface_few : (m : ℕ) → surface_cells s m ≤ 17179869184
-  surface_few m = mul-le-mul (le_trans (slices_few m) (depth_kept s h).1) (slice_few m)
-
   -- the surfaces of one mip together
   pub mip_few : (m : ℕ) → layers_of s * surface_cells s m ≤ 17179869184
   mip_few m =
@@ -76,3 +75,15 @@ module _ (s : Shape) (h : proper s ≡ true) where
   -- the cells of a texture are at most 2 to the 40, with room to spare
   pub cells_few : cells_of s ≤ 1099511627776
   cells_few = omega (arith, mip_first_few s.mips, (mips_kept s h).1)
+
+-- the cells of all surfaces of a mip
+abbrev pub mip_cells : Shape → ℕ → ℕ
+mip_cells s m = layers_of s * surface_cells s m
+
+-- the cells of the first mips, added up
+pub sum_cells : (s : Shape) (n : ℕ) → sum (map (mip_cells s) (range_with_len 0 n)) ≡ mip_first s n
+sum_cells s zero = refl
+sum_cells s (suc n) =
+    ap (λ k. sum (map (mip_cells s) (range_with_len 0 k))) (sym (add-one n))
+    ∙ sum_by-map-range_with_len_more (λ x. x) (mip_cells s) 0 n n (omega arith)
+    ∙ ap (λ x. x + mip_cells s n) (sum_cells s n)

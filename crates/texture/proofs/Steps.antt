@@ -1,12 +1,12 @@
 -- Steps of a walk over runs: into the next slice, and over one run.
-use Rattle.std.proofs.Common.{◌≡◌, ℕ, suc, ◌+◌, ◌-◌, ◌*◌, ◌≤◌, min, List, [], ◌∷◌, ◌++◌, length, sym, ap, ◌∙◌, ap₂, le_refl, zero-mul, arith, length-append}
+use Rattle.std.proofs.Common.{◌≡◌, ℕ, ◌+◌, ◌-◌, ◌*◌, ◌≤◌, min, List, ◌∷◌, ◌++◌, length, sym, ap, ◌∙◌, ap₂, le_refl, zero-mul, arith, length-append}
 use native.Mathlib.Nat.{min-le_right}
 use Rattle.texture.specs.Copies.{runs_down, slice_runs}
 use Rattle.std.specs.Int.{div_ceil}
 use Rattle.texture.specs.Walked.{runs_left}
 use Rattle.texture.specs.declared.walk.SurfaceRuns.{SurfaceRuns}
 use Rattle.texture.proofs.Rounded.{div_ceil-blocks}
-use Rattle.texture.proofs.Walks.{runs_next, runs_count, slices_count, suc_times}
+use Rattle.texture.proofs.Walks.{runs_next, runs_count, slices_count}
 use Rattle.texture.proofs.Follow.{rows_split}
 
 -- the runs of a walk, by its numbers
@@ -18,16 +18,6 @@ pub walked_whole : (first wide each rows slices : ℕ) → walked first wide eac
 walked_whole first wide each rows slices =
     let e : first + 0 * wide ≡ first = omega (arith, zero-mul wide) in
     ap (λ x. slice_runs slices each wide x rows) e
-
-pub walked_on : (first wide each left rows slices : ℕ) → left ≡ 0 → 1 ≤ slices → walked first wide each rows rows (slices - 1) ≡ walked first wide each left rows slices
-walked_on first wide each left rows slices z some =
-    let e : slices ≡ suc (slices - 1) = omega arith in
-    sym (ap (λ x. walked first wide each x rows slices) z ∙ walked_whole first wide each rows slices ∙ ap (λ x. slice_runs x each wide first rows) e)
-
--- with no slice left either, no run is left
-pub walked_out : (first wide each left rows slices : ℕ) → left ≡ 0 → slices ≡ 0 → walked first wide each left rows slices ≡ []
-walked_out first wide each left rows slices z y =
-    ap (λ x. walked first wide each x rows slices) z ∙ ap (λ x. walked first wide each 0 rows x) y
 
 -- one run, and the walk after it
 pub walked_next : (first wide each left rows slices : ℕ) → 1 ≤ each → 1 ≤ left → walked first wide each left rows slices ≡ (first, min each left * wide) ∷ walked (first + min each left * wide) wide each (left - min each left) rows slices
@@ -45,13 +35,6 @@ spent t first wide left more le =
     let split : t * wide + (left + more - t) * wide ≡ (left + more) * wide = rows_split t (left + more) wide (omega arith) in
     let same : (left + more - t) * wide ≡ (left - t + more) * wide = ap (λ x. x * wide) e in
     omega arith
-
--- the rows of the next slice and of those after it are the rows of all
-pub all_rows : (rows slices : ℕ) → 1 ≤ slices → rows + (slices - 1) * rows ≡ 0 + slices * rows
-all_rows rows slices some =
-    let e : slices ≡ suc (slices - 1) = omega arith in
-    let m : slices * rows ≡ suc (slices - 1) * rows = ap (λ x. x * rows) e in
-    omega (arith, suc_times (slices - 1) rows)
 
 -- how many runs a walk has left
 pub count_left : (w : SurfaceRuns) → length (runs_left w) ≡ div_ceil w.left w.each + w.slices * div_ceil w.rows w.each

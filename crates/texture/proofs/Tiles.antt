@@ -1,5 +1,6 @@
 -- Each cell of a texture lies in one surface.
-use Rattle.std.proofs.Common.{◌≡◌, ℕ, zero, suc, ◌+◌, ◌-◌, ◌*◌, ◌/◌, ◌%◌, ◌<◌, ◌≤◌, true, ltb, leb, sym, refl, ap, ◌∙◌, subst, ⊎_elim, le_refl, add-zero, mul-le-mul_right, mod-lt, mul_comm, mul-suc, arith}
+use Rattle.std.proofs.Common.{◌≡◌, ℕ, zero, suc, ◌+◌, ◌-◌, ◌*◌, ◌/◌, ◌%◌, ◌<◌, ◌≤◌, true, ltb, leb, sym, refl, ap, ◌∙◌, subst, ⊎_elim, le_refl, add-zero, mul-le-mul_right, mod-lt, arith}
+use Rattle.std.proofs.Math.Nat.{suc-mul}
 use lib.Arith.{digits_div}
 use Rattle.std.proofs.lemmas.Bool.{and_parts, and_from, leb-true, ltb-true, le-leb, lt-ltb, lt-leb, cases_lt, cond-true, cond-false}
 use Rattle.std.proofs.lemmas.Nat.{div_below, div-add-mod'}
@@ -65,7 +66,7 @@ pub surface_in_mip : (s : Shape) (m l : ℕ) → l < layers_of s → surface_fir
 surface_in_mip s m l lt =
     let c = surface_cells s m in
     let more : suc l * c ≤ layers_of s * c = mul-le-mul_right c lt in
-    let e : suc l * c ≡ l * c + c = mul_comm (suc l) c ∙ mul-suc c l ∙ ap (λ x. x + c) (mul_comm c l) in
+    let e : suc l * c ≡ l * c + c = suc-mul l c in
     omega arith
 
 -- and within its texture

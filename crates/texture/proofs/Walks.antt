@@ -1,5 +1,6 @@
 -- Runs down a slice and over slices: what the next one is, how many there are, and that they follow each other.
-use Rattle.std.proofs.Common.{◌≡◌, ℕ, zero, suc, ◌+◌, ◌-◌, ◌*◌, ◌/◌, ◌<◌, ◌≤◌, min, cond, eqb, [], ◌∷◌, length, sym, refl, ap, ◌∙◌, ap₂, ⊎_elim, mul_comm, zero-mul, mul-suc, arith, length-append}
+use Rattle.std.proofs.Common.{◌≡◌, ℕ, zero, suc, ◌+◌, ◌-◌, ◌*◌, ◌/◌, ◌<◌, ◌≤◌, min, cond, eqb, [], ◌∷◌, length, sym, refl, ap, ◌∙◌, ap₂, ⊎_elim, zero-mul, arith, length-append}
+use Rattle.std.proofs.Math.Nat.{suc-mul}
 use native.Mathlib.Nat.{min-eq_left, min-eq_right, div-eq_of_lt, div-eq_of_lt-le, add-div_right}
 use lib.Dec.{eqb-suc-zero}
 use Rattle.std.proofs.lemmas.Bool.{cases_lt}
@@ -8,9 +9,6 @@ use Rattle.texture.specs.Copies.{runs_down, slice_runs}
 pub no_rows : (n each wide first : ℕ) → runs_down n each wide first 0 ≡ []
 no_rows zero each wide first = refl
 no_rows (suc n) each wide first = refl
-
-pub suc_times : (n q : ℕ) → suc n * q ≡ n * q + q
-suc_times n q = mul_comm (suc n) q ∙ mul-suc q n ∙ ap (λ x. x + q) (mul_comm q n)
 
 -- a run takes a row at least
 pub takes_some : (each rows : ℕ) → 1 ≤ each → 1 ≤ rows → 1 ≤ min each rows
@@ -69,5 +67,5 @@ module _ (each wide : ℕ) (some : 1 ≤ each) where
       let q = (rows + (each - 1)) / each in
       let one = runs_count rows first rows (omega arith) in
       let more = slices_count n (first + rows * wide) rows in
-      let e : suc n * q ≡ n * q + q = suc_times n q in
+      let e : suc n * q ≡ n * q + q = suc-mul n q in
       length-append (runs_down rows each wide first rows) (slice_runs n each wide (first + rows * wide) rows) ∙ ap₂ ◌+◌ one more ∙ omega arith

@@ -35,12 +35,3 @@ pitch_fits pitch = between 1 256 pitch
 -- the runs that clear a surface, if there is such a surface and such a pitch
 abbrev pub runs_in : ℕ → Shape → ℕ → ℕ → Option (List (ℕ × ℕ))
 runs_in pitch s m l = cond (pitch_fits pitch && is_surface s m l) (Some (clear_runs pitch s m l)) None
-
--- the next run, and those after it
-abbrev pub first_run : List (ℕ × ℕ) → Option (ℕ × ℕ)
-first_run [] = None
-first_run (r ∷ rs) = Some r
-
-abbrev pub rest_runs : List (ℕ × ℕ) → List (ℕ × ℕ)
-rest_runs [] = []
-rest_runs (r ∷ rs) = rs

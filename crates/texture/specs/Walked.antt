@@ -8,10 +8,6 @@ use Rattle.texture.specs.declared.walk.SurfaceRuns.{SurfaceRuns}
 abbrev pub cells_of_run : Run → ℕ × ℕ
 cells_of_run r = (r.first, r.count)
 
-abbrev pub run_taken : Option Run → Option (ℕ × ℕ)
-run_taken (Some r) = Some (cells_of_run r)
-run_taken None = None
-
 -- the runs that are left: down this slice, then of the slices after it
 abbrev pub runs_left : SurfaceRuns → List (ℕ × ℕ)
 runs_left w =

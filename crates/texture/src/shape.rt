@@ -95,6 +95,7 @@ fn halves(side: u32, mips: u32) -> bool
 }
 
 // A side halved so often, dropping fractions.
+#[tactic(auto, using(crate::proofs::Halved::shift_halves))]
 pub(crate) fn halved(side: u32, times: u32) -> u32
     ensures { result ≡ side / 2 ^ times }
 {

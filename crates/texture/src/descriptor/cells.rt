@@ -1,5 +1,6 @@
 // Where a texture's cells lie: the sizes of mips and surfaces, and where each begins.
-ghost use Rattle.std.specs.Prelude.{◌≡◌, ◌≤◌};
+ghost use Rattle.std.specs.Prelude.{◌≡◌, ◌*◌, ◌≤◌};
+ghost use Rattle.texture.specs.Shapes.{layers_of};
 ghost use Rattle.texture.specs.Cells.{side as sideOf, across as acrossOf, down as downOf, slices as slicesOf, surface_cells, mip_first, cells_of};
 ghost use Rattle.texture.specs.Tiles.{first_in, is_surface};
 ghost use Rattle.texture.specs.Described.{shape_of};
@@ -41,6 +42,7 @@ impl TextureDescriptor {
     }
 
     // All cells of the texture, at most 2 to the 40.
+    #[tactic(auto, using(crate::proofs::Sides::cells_few))]
     pub fn cells(self) -> u64
         ensures answer { result ≡ cells_of (shape_of self) }
         ensures few { result ≤ 1099511627776 }
@@ -71,12 +73,16 @@ impl TextureDescriptor {
         requires { mip ≤ (shape_of self).mips }
         ensures { result ≡ mip_first (shape_of self) mip }
     {
-        let layers = self.layers() as u64;
-        let mut first = 0;
-        for m in 0..mip {
-            first += layers * self.surface_cells(m);
-        }
-        first
+        (0..mip).map(|m| self.mip_cells(m)).sum()
+    }
+
+    // The cells of all surfaces of a mip.
+    #[tactic(auto, using(crate::proofs::Sides::mip_few))]
+    fn mip_cells(self, mip: u32) -> u64
+        ensures answer { result ≡ layers_of (shape_of self) * surface_cells (shape_of self) mip }
+        ensures few { result ≤ 17179869184 }
+    {
+        self.layers() as u64 * self.surface_cells(mip)
     }
 }
 
