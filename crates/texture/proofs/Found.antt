@@ -12,23 +12,8 @@ surface_parts s m l h =
     let p = and_parts (ltb m s.mips) (ltb l (layers_of s)) h in
     (ltb-true m s.mips p.0, ltb-true l (layers_of s) p.1)
 
-module _ (s : Shape) (m l first : ℕ) (found : Some first ≡ first_in s m l) where
-  pub found_surface : is_surface s m l ≡ true
-  found_surface =
-      ⊎_elim
-      (λ (t : is_surface s m l ≡ true). t)
-      (λ (t : is_surface s m l ≡ false).
-      let e : Some first ≡ None = found ∙ cond-false (is_surface s m l) (Some (surface_first s m l)) None t in
-      let z : ◌≡◌ {A = ℕ} 0 1 = cc in
-      absurd (omega arith))
-      (cases_Bool (is_surface s m l))
-
-  pub found_first : first ≡ surface_first s m l
-  found_first =
-      let e : Some first ≡ Some (surface_first s m l) = found ∙ cond-true (is_surface s m l) (Some (surface_first s m l)) None found_surface in
-      cc
-
-  pub found_within : proper s ≡ true → first + surface_cells s m ≤ 1099511627776
-  found_within h =
-      let p = surface_parts s m l found_surface in
-      omega (arith, found_first, surface_in_cells s m l p.0 p.1, cells_few s h)
+-- a surface ends where the texture still may have cells
+pub surface_within : (s : Shape) (m l : ℕ) → proper s ≡ true → is_surface s m l ≡ true → surface_first s m l + surface_cells s m ≤ 1099511627776
+surface_within s m l h named =
+    let p = surface_parts s m l named in
+    omega (arith, surface_in_cells s m l p.0 p.1, cells_few s h)

@@ -1,5 +1,5 @@
 // Where a texture's cells lie: the sizes of mips and surfaces, and where each begins.
-ghost use Rattle.std.specs.Prelude.{◌≡◌, ◌*◌, ◌≤◌};
+ghost use Rattle.std.specs.Prelude.{◌≡◌, ◌+◌, ◌*◌, ◌≤◌, IfSome};
 ghost use Rattle.texture.specs.Shapes.{layers_of};
 ghost use Rattle.texture.specs.Cells.{side as sideOf, across as acrossOf, down as downOf, slices as slicesOf, surface_cells, mip_first, cells_of};
 ghost use Rattle.texture.specs.Tiles.{first_in, is_surface};
@@ -58,8 +58,10 @@ impl TextureDescriptor {
     }
 
     // The first cell of a surface, if the texture has it.
+    #[tactic(auto, using(crate::proofs::Found::surface_within))]
     pub fn surface_first(self, mip: u32, layer: u32) -> Option<u64>
-        ensures { result ≡ first_in (shape_of self) mip layer }
+        ensures answer { result ≡ first_in (shape_of self) mip layer }
+        ensures within { IfSome result (λ first. first + surface_cells (shape_of self) mip ≤ 1099511627776) }
     {
         if self.has_surface(mip, layer) {
             Some(self.mip_first(mip) + layer as u64 * self.surface_cells(mip))
