@@ -1,9 +1,9 @@
 -- A surface that was found: where it begins, and that its cells are the texture's.
-use Rattle.std.proofs.Common.{◌≡◌, ℕ, ◌+◌, ◌<◌, ◌≤◌, true, false, ltb, Some, None, ◌∙◌, ⊎_elim, arith}
-use Rattle.std.proofs.lemmas.Bool.{and_parts, ltb-true, cases_Bool, cond-true, cond-false}
+use Rattle.std.proofs.Common.{◌≡◌, ℕ, ◌+◌, ◌<◌, ◌≤◌, true, ltb, arith}
+use Rattle.std.proofs.lemmas.Bool.{and_parts, ltb-true}
 use Rattle.texture.specs.Shapes.{Shape, layers_of, proper}
 use Rattle.texture.specs.Cells.{surface_first, surface_cells}
-use Rattle.texture.specs.Tiles.{is_surface, first_in}
+use Rattle.texture.specs.Tiles.{is_surface}
 use Rattle.texture.proofs.Sides.{cells_few}
 use Rattle.texture.proofs.Tiles.{surface_in_cells}
 

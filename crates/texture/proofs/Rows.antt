@@ -1,5 +1,5 @@
 -- Rows of bytes: they hold their blocks, and the zeros suffice for at least one row of blocks.
-use Rattle.std.proofs.Common.{◌≡◌, ℕ, ◌+◌, ◌-◌, ◌*◌, ◌/◌, ◌<◌, ◌≤◌, true, sym, subst, le_trans, mul-le-mul_right, mul-le-mul_left, mul-pos, one-mul, div-le_self, div-mul-le_self, mul-div_cancel, arith}
+use Rattle.std.proofs.Common.{◌≡◌, ℕ, ◌+◌, ◌-◌, ◌*◌, ◌/◌, ◌<◌, ◌≤◌, true, le_trans, mul-le-mul_right, mul-le-mul_left, mul-pos, one-mul, div-le_self, div-mul-le_self, mul-div_cancel, arith}
 use native.Mathlib.Nat.{lt-div-mul-add}
 use Rattle.std.proofs.lemmas.Nat.{le-div}
 use Rattle.texture.specs.Shapes.{Shape, block_bytes, block_width, block_height, proper}
@@ -88,9 +88,12 @@ module _ (pitch : ℕ) (s : Shape) (m : ℕ) (fits : pitch_fits pitch ≡ true) 
       le_trans (mul-le-mul_left (block_height f) near) (tall_fits f n a short align_few)
 
   -- a copy has a row of blocks
-  pub rows_some : proper s ≡ true → 1 ≤ block_rows_per_copy pitch s m
-  rows_some h =
+  pub copy_some : proper s ≡ true → 1 ≤ zero_bytes / bytes_per_row pitch s m / block_height s.format
+  copy_some h =
       let f = s.format in
       let b = bytes_per_row pitch s m in
       let one : 1 * block_height f ≤ zero_bytes / b = le-div (1 * block_height f) zero_bytes b row_some (rw (one-mul (block_height f)) (row_few h)) in
-      subst (λ n. 1 ≤ n) (sym (block_rows pitch s m)) (le-div 1 (zero_bytes / b) (block_height f) (height_some f).0 one)
+      le-div 1 (zero_bytes / b) (block_height f) (height_some f).0 one
+
+  pub rows_some : proper s ≡ true → 1 ≤ block_rows_per_copy pitch s m
+  rows_some h = omega (arith, block_rows pitch s m, copy_some h)

@@ -26,5 +26,5 @@ pub struct SurfaceRuns {
     ghost low: { rows ≤ 16384 },
     ghost short: { left ≤ 16384 },
     ghost thin: { slices ≤ 64 },
-    ghost within: { first + (left + slices * rows) * wide ≤ 1099511627776 },
+    ghost within: { first + left * wide + slices * (rows * wide) ≤ 1099511627776 },
 }

@@ -30,6 +30,7 @@ impl TextureDescriptor {
     }
 
     // The copies of a surface whose first cell is known.
+    #[tactic(auto, using(crate::proofs::Sides::down_some))]
     fn copies(self, pitch: Pitch, mip: u32, first: u64) -> SurfaceRuns
         requires { first + surface_cells (shape_of self) mip ≤ 1099511627776 }
         ensures { runs_left result ≡ slice_runs (slices (shape_of self) mip) (block_rows_per_copy pitch.bytes (shape_of self) mip) (across (shape_of self) mip) first (down (shape_of self) mip) }
@@ -44,8 +45,11 @@ impl TextureDescriptor {
     }
 
     // The rows of blocks that one copy has.
+    #[tactic(auto, using(crate::proofs::Rows::row_some, crate::proofs::Rows::copy_some, crate::proofs::Rows::rows_few))]
     fn block_rows(self, pitch: Pitch, mip: u32) -> u32
-        ensures { result ≡ block_rows_per_copy pitch.bytes (shape_of self) mip }
+        ensures answer { result ≡ block_rows_per_copy pitch.bytes (shape_of self) mip }
+        ensures some { 1 ≤ result }
+        ensures few { result ≤ 524288 }
     {
         ZERO_BYTES / self.row_bytes(pitch, mip) / self.shape.format.block_height()
     }

@@ -12,7 +12,7 @@ impl SurfaceRuns {
         requires runs { (1 ≤ each) × (each ≤ 524288) }
         requires rows { (1 ≤ rows) × (rows ≤ 16384) }
         requires slices { slices ≤ 64 }
-        requires within { first + slices * rows * wide ≤ 1099511627776 }
+        requires within { first + slices * (rows * wide) ≤ 1099511627776 }
         ensures { runs_left result ≡ slice_runs slices each wide first rows }
     {
         SurfaceRuns {

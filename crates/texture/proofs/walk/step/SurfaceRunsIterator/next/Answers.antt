@@ -1,15 +1,13 @@
 use Rattle.std.proofs.Common.{◌≡◌, ℕ, ◌+◌, ◌-◌, ◌*◌, ◌≤◌, min, List, ◌∷◌, length, sym, ap, ◌∙◌, subst, arith}
-use native.Mathlib.Nat.{min-le_right}
 use Rattle.texture.specs.Walked.{runs_left}
 use Rattle.texture.specs.declared.walk.SurfaceRuns.{SurfaceRuns}
-use Rattle.texture.proofs.Steps.{walked, walked_next, spent}
+use Rattle.texture.proofs.Steps.{walked, walked_next}
+use Rattle.texture.proofs.Follow.{rows_split}
 use Rattle.texture.proofs.walk.step.SurfaceRunsIterator.next.Goals as goal
 
 -- after a run that takes t rows, cells of the walk are left or none
-within : (w : SurfaceRuns) (t : ℕ) → t ≡ min w.each w.left → w.first + t * w.wide + (w.left - t + w.slices * w.rows) * w.wide ≤ 1099511627776
-within w t e =
-    let le : t ≤ w.left = subst (λ x. x ≤ w.left) (sym e) (min-le_right w.each w.left) in
-    omega (arith, spent t w.first w.wide w.left (w.slices * w.rows) le, w.within)
+within : (w : SurfaceRuns) (t : ℕ) → t ≡ min w.each w.left → w.first + t * w.wide + (w.left - t) * w.wide + w.slices * (w.rows * w.wide) ≤ 1099511627776
+within w t e = omega (arith, rows_split t w.left w.wide (omega arith), w.within)
 
 pub invariant_of-walk : goal.invariant_of-walk
 invariant_of-walk c =
