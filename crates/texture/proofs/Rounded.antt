@@ -19,7 +19,7 @@ div_ceil-blocks n k some =
     sym (quotient n k (div_ceil n k) some p.0 p.1)
 
 -- the least multiple of k that is n or more
-pub multiple-aligned : (n k r : ℕ) → 0 < k → n ≤ r → r < n + k → r % k ≡ 0 → r ≡ aligned_to k n
-multiple-aligned n k r some low high whole =
+pub multiple_aligned : (n k r : ℕ) → 0 < k → n ≤ r → r < n + k → r % k ≡ 0 → r ≡ aligned_to k n
+multiple_aligned n k r some low high whole =
     let e : r / k * k ≡ r = div-mul_cancel k (dvd_of_mod-eq-zero k whole) in
     sym (ap (λ q. q * k) (quotient n k (r / k) some (omega arith) (omega arith)) ∙ e)

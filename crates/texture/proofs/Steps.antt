@@ -1,5 +1,5 @@
--- Steps of a walk over runs: into the next slice, and over one run.
-use Rattle.std.proofs.Common.{◌≡◌, ℕ, ◌+◌, ◌-◌, ◌*◌, ◌≤◌, min, List, ◌∷◌, ◌++◌, length, sym, ap, ◌∙◌, ap₂, le_refl, zero-mul, arith, length-append}
+-- Steps of a walk over runs: the next run, and how many there are.
+use Rattle.std.proofs.Common.{◌≡◌, ℕ, ◌+◌, ◌-◌, ◌*◌, ◌≤◌, min, List, ◌∷◌, ◌++◌, length, sym, ap, ◌∙◌, ap₂, le_refl, arith, length-append}
 use native.Mathlib.Nat.{min-le_right}
 use Rattle.texture.specs.Copies.{runs_down, slice_runs}
 use Rattle.std.specs.Int.{div_ceil}
@@ -13,12 +13,6 @@ use Rattle.texture.proofs.Follow.{rows_split}
 abbrev pub walked : ℕ → ℕ → ℕ → ℕ → ℕ → ℕ → List (ℕ × ℕ)
 walked first wide each left rows slices = runs_down left each wide first left ++ slice_runs slices each wide (first + left * wide) rows
 
--- with no row left in this slice the next slice begins here
-pub walked_whole : (first wide each rows slices : ℕ) → walked first wide each 0 rows slices ≡ slice_runs slices each wide first rows
-walked_whole first wide each rows slices =
-    let e : first + 0 * wide ≡ first = omega (arith, zero-mul wide) in
-    ap (λ x. slice_runs slices each wide x rows) e
-
 -- one run, and the walk after it
 pub walked_next : (first wide each left rows slices : ℕ) → 1 ≤ each → 1 ≤ left → walked first wide each left rows slices ≡ (first, min each left * wide) ∷ walked (first + min each left * wide) wide each (left - min each left) rows slices
 walked_next first wide each left rows slices some more =
@@ -27,14 +21,6 @@ walked_next first wide each left rows slices some more =
     let e : first + left * wide ≡ first + t * wide + (left - t) * wide = omega arith in
     ap (λ rs. rs ++ slice_runs slices each wide (first + left * wide) rows) (runs_next each wide some first left more)
     ∙ ap (λ x. (first, t * wide) ∷ (runs_down (left - t) each wide (first + t * wide) (left - t) ++ slice_runs slices each wide x rows)) e
-
--- the cells of a run and those after it are the cells before it
-pub spent : (t first wide left more : ℕ) → t ≤ left → first + t * wide + (left - t + more) * wide ≡ first + (left + more) * wide
-spent t first wide left more le =
-    let e : left + more - t ≡ left - t + more = omega arith in
-    let split : t * wide + (left + more - t) * wide ≡ (left + more) * wide = rows_split t (left + more) wide (omega arith) in
-    let same : (left + more - t) * wide ≡ (left - t + more) * wide = ap (λ x. x * wide) e in
-    omega arith
 
 -- how many runs a walk has left
 pub count_left : (w : SurfaceRuns) → length (runs_left w) ≡ div_ceil w.left w.each + w.slices * div_ceil w.rows w.each

@@ -1,13 +1,16 @@
 // The alignment of rows: the least number that both the pitch and a block divide.
-ghost use Rattle.std.specs.Prelude.{◌≡◌, ◌*◌, ◌^◌, ◌<◌};
+ghost use Rattle.std.specs.Prelude.{◌≡◌, ◌*◌, ◌^◌, ◌<◌, ◌≤◌};
 ghost use Rattle.std.specs.Int.{IsGcd};
 ghost use Rattle.texture.specs.Copies.{lcm};
 
 // The least common multiple of two numbers.
+#[tactic(auto, using(crate::proofs::Multiples::lcm_over, crate::proofs::Multiples::lcm_some, crate::proofs::Multiples::lcm_most))]
 pub(crate) fn common_multiple(a: u32, b: u32) -> u32
     requires some { (0 < a) × (0 < b) }
     requires fits { a * b < 2 ^ 32 }
-    ensures { result ≡ lcm a b }
+    ensures answer { result ≡ lcm a b }
+    ensures some { 0 < result }
+    ensures few { result ≤ a * b }
 {
     a * b / common_divisor(a, b)
 }

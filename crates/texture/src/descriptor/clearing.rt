@@ -55,6 +55,7 @@ impl TextureDescriptor {
     }
 
     // The bytes of a row in the buffer of zeros.
+    #[tactic(auto, using(crate::proofs::Rows::bytes_some))]
     fn row_bytes(self, pitch: Pitch, mip: u32) -> u32
         ensures { result ≡ bytes_per_row pitch.bytes (shape_of self) mip }
     {

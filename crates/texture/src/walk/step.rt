@@ -46,6 +46,7 @@ impl Iterator for SurfaceRuns {
     ghost remaining = { item_count runs_left };
 
     // Takes the next run, if one is left.
+    #[tactic(auto, using(crate::proofs::Steps::walked_next, crate::proofs::Follow::rows_split))]
     fn next(&mut self) -> Option<Run> {
         let mut walk = self.in_slice();
         if walk.left == 0 {
