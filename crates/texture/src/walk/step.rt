@@ -5,6 +5,7 @@ ghost use Rattle.texture.specs.Copies.{slice_runs};
 ghost use Rattle.texture.specs.Walked.{cells_of_run, runs_left};
 
 use crate::walk::{Run, SurfaceRuns};
+use std::iter::FusedIterator;
 
 impl SurfaceRuns {
     // The runs of so many slices, each from the top.
@@ -76,3 +77,5 @@ impl ExactSizeIterator for SurfaceRuns {
         (self.left.div_ceil(self.each) + self.slices * self.rows.div_ceil(self.each)) as usize
     }
 }
+
+impl FusedIterator for SurfaceRuns {}

@@ -1,12 +1,12 @@
-use Rattle.std.proofs.Common.{sym, ◌∙◌}
-use Rattle.texture.proofs.Named.{described_named}
+use Rattle.std.proofs.Common.{◌≡◌, Some, sym, ◌∙◌}
+use Rattle.texture.specs.Numbered.{dimension_of, format_of, mode_of}
+use Rattle.texture.proofs.Named.{known_some}
 use Rattle.texture.proofs.descriptor.TextureDescriptor.new.Goals as goal
 
 pub returns : goal.returns
 returns c =
     let n = c.args.numbers in
-    let dimension = sym c.try_from.ensures ∙ c.in_ok-try_from.was in
-    let format = sym c.try_from-2.ensures ∙ c.in_ok-try_from-2.was in
-    let mode = sym c.try_from-3.ensures ∙ c.in_ok-try_from-3.was in
-    c.try_from-4.ensures
-    ∙ sym (described_named n.dimension n.format n.mode n.width n.height n.count n.mips c.in_ok-try_from.field-0 c.in_ok-try_from-2.field-0 c.in_ok-try_from-3.field-0 dimension format mode)
+    let dimension : dimension_of n.dimension ≡ Some c.in_ok-try_from.field-0 = known_some n.dimension _ _ (sym c.try_from.ensures ∙ c.in_ok-try_from.was) in
+    let format : format_of n.format ≡ Some c.in_ok-try_from-2.field-0 = known_some n.format _ _ (sym c.try_from-2.ensures ∙ c.in_ok-try_from-2.was) in
+    let mode : mode_of n.mode ≡ Some c.in_ok-try_from-3.field-0 = known_some n.mode _ _ (sym c.try_from-3.ensures ∙ c.in_ok-try_from-3.was) in
+    rw (dimension, format, mode) c.try_from-4.ensures
