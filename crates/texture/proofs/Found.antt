@@ -1,6 +1,6 @@
 -- A surface that was found: where it begins, and that its cells are the texture's.
-use Rattle.std.proofs.Common.{◌≡◌, ℕ, ◌+◌, ◌<◌, ◌≤◌, true, ltb, arith}
-use Rattle.std.proofs.lemmas.Bool.{and_parts, ltb-true}
+use Rattle.std.proofs.Common.{◌≡◌, ℕ, ◌+◌, ◌<◌, ◌≤◌, true, arith}
+use Rattle.std.proofs.lemmas.Bool.Decides.{nat_tests}
 use Rattle.texture.specs.Shapes.{Shape, layers_of, proper}
 use Rattle.texture.specs.Cells.{surface_first, surface_cells}
 use Rattle.texture.specs.Tiles.{is_surface}
@@ -8,9 +8,7 @@ use Rattle.texture.proofs.Sides.{cells_few}
 use Rattle.texture.proofs.Tiles.{surface_in_cells}
 
 pub surface_parts : (s : Shape) (m l : ℕ) → is_surface s m l ≡ true → (m < s.mips) × (l < layers_of s)
-surface_parts s m l h =
-    let p = and_parts (ltb m s.mips) (ltb l (layers_of s)) h in
-    (ltb-true m s.mips p.0, ltb-true l (layers_of s) p.1)
+surface_parts s m l h = grind (arith, nat_tests)
 
 -- a surface ends where the texture still may have cells
 pub surface_within : (s : Shape) (m l : ℕ) → proper s ≡ true → is_surface s m l ≡ true → surface_first s m l + surface_cells s m ≤ 1099511627776

@@ -1,6 +1,7 @@
 -- Rows of bytes: they hold their blocks, and the zeros suffice for at least one row of blocks.
 use Rattle.std.proofs.Common.{◌≡◌, ℕ, ◌+◌, ◌-◌, ◌*◌, ◌/◌, ◌<◌, ◌≤◌, true, le_trans, mul-le-mul_right, mul-le-mul_left, mul-pos, one-mul, div-le_self, div-mul-le_self, mul-div_cancel, arith}
 use native.Mathlib.Nat.{lt-div-mul-add}
+use Rattle.std.proofs.lemmas.Bool.Decides.{nat_tests}
 use Rattle.std.proofs.lemmas.Nat.{le-div}
 use Rattle.texture.specs.Shapes.{Shape, block_bytes, block_width, block_height, proper}
 use Rattle.texture.specs.Cells.{side, blocks, across}
@@ -8,7 +9,7 @@ use Rattle.texture.specs.Copies.{lcm, aligned_to, zero_bytes, bytes_per_row, row
 use Rattle.texture.specs.Runs.{pitch_fits}
 use Rattle.texture.specs.declared.format.Format.{Format}
 use Rattle.texture.specs.declared.format.Format.TheVariants.{R8Unorm, Rgba8Unorm, Rgba32Float, Bc1RgbaUnorm, Astc6x5Unorm, Depth32Float}
-use Rattle.texture.proofs.Proper.{between_parts, width_kept}
+use Rattle.texture.proofs.Proper.{width_kept}
 use Rattle.texture.proofs.Sides.{side_le, across_some}
 use Rattle.texture.proofs.Multiples.{lcm_some, lcm_most}
 
@@ -63,7 +64,7 @@ zeros_enough pitch s m =
 
 module _ (pitch : ℕ) (s : Shape) (m : ℕ) (fits : pitch_fits pitch ≡ true) where
   pub pitch_kept : (1 ≤ pitch) × (pitch ≤ 256)
-  pitch_kept = between_parts 1 256 pitch fits
+  pitch_kept = grind (arith, nat_tests)
 
   pub align_some : 0 < lcm pitch (block_bytes s.format)
   align_some = lcm_some pitch (block_bytes s.format) pitch_kept.0 (bytes_some s.format).0

@@ -1,8 +1,9 @@
 -- Each cell of a texture lies in one surface.
-use Rattle.std.proofs.Common.{◌≡◌, ℕ, zero, suc, ◌+◌, ◌-◌, ◌*◌, ◌/◌, ◌%◌, ◌<◌, ◌≤◌, true, ltb, leb, sym, refl, ap, ◌∙◌, subst, ⊎_elim, le_refl, add-zero, mul-le-mul_right, mod-lt, arith}
+use Rattle.std.proofs.Common.{◌≡◌, ℕ, zero, suc, ◌+◌, ◌-◌, ◌*◌, ◌/◌, ◌%◌, ◌<◌, ◌≤◌, true, leb, sym, refl, ap, ◌∙◌, subst, ⊎_elim, le_refl, add-zero, mul-le-mul_right, mod-lt, arith}
 use Rattle.std.proofs.Math.Nat.{suc-mul}
 use lib.Arith.{digits_div}
-use Rattle.std.proofs.lemmas.Bool.{and_parts, and_from, leb-true, ltb-true, le-leb, lt-ltb, lt-leb, cases_lt, cond-true, cond-false}
+use Rattle.std.proofs.lemmas.Bool.Decides.{nat_tests}
+use Rattle.std.proofs.lemmas.Bool.{le-leb, lt-leb, cases_lt, cond-true, cond-false}
 use Rattle.std.proofs.lemmas.Nat.{div_below, div-add-mod'}
 use Rattle.texture.specs.Shapes.{Shape, layers_of}
 use Rattle.texture.specs.Cells.{surface_cells, mip_first, surface_first, cells_of, in_surface, mips_before, mip_of, layer_of}
@@ -49,17 +50,10 @@ lands_mip s (suc n) i lt =
     (cases_lt i (mip_first s n))
 
 pub in_parts : (s : Shape) (m l i : ℕ) → in_surface s m l i ≡ true → (surface_first s m l ≤ i) × (i < surface_first s m l + surface_cells s m)
-in_parts s m l i h =
-    let a = surface_first s m l in
-    let b = surface_first s m l + surface_cells s m in
-    let p = and_parts (leb a i) (ltb i b) h in
-    (leb-true a i p.0, ltb-true i b p.1)
+in_parts s m l i h = grind (arith, nat_tests)
 
 pub in_from : (s : Shape) (m l i : ℕ) → surface_first s m l ≤ i → i < surface_first s m l + surface_cells s m → in_surface s m l i ≡ true
-in_from s m l i from to =
-    let a = surface_first s m l in
-    let b = surface_first s m l + surface_cells s m in
-    and_from (leb a i) (ltb i b) (le-leb a i from) (lt-ltb i b to)
+in_from s m l i from to = grind (arith, nat_tests)
 
 -- a surface lies within its mip
 pub surface_in_mip : (s : Shape) (m l : ℕ) → l < layers_of s → surface_first s m l + surface_cells s m ≤ mip_first s (suc m)

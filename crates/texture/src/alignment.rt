@@ -15,7 +15,7 @@ pub(crate) fn common_multiple(a: u32, b: u32) -> u32
     a * b / common_divisor(a, b)
 }
 
-// The greatest common divisor, by Euclid's remainders.
+// The greatest common divisor, by Euclid's remainders: the library has none.
 fn common_divisor(a: u32, b: u32) -> u32
     requires { 0 < a }
     ensures some { 0 < result }

@@ -25,10 +25,9 @@ impl Shape {
     pub(crate) fn layers(self) -> u32
         ensures { result ≡ layers_of self }
     {
-        if self.dimension.is_flat() {
-            self.count
-        } else {
-            1
+        match self.dimension {
+            Dimension::D2 => self.count,
+            Dimension::D3 => 1,
         }
     }
 

@@ -1,7 +1,7 @@
 // Where a texture's cells lie: the sizes of mips and surfaces, and where each begins.
 ghost use Rattle.std.specs.Prelude.{◌≡◌, ◌+◌, ◌*◌, ◌≤◌, IfSome};
 ghost use Rattle.texture.specs.Shapes.{layers_of};
-ghost use Rattle.texture.specs.Cells.{side as sideOf, across as acrossOf, down as downOf, slices as slicesOf, surface_cells, mip_first, cells_of};
+ghost use Rattle.texture.specs.Cells.{side, across, down, slices, surface_cells, mip_first, cells_of};
 ghost use Rattle.texture.specs.Tiles.{first_in, is_surface};
 ghost use Rattle.texture.specs.Described.{shape_of};
 
@@ -11,7 +11,7 @@ use crate::shape::halved;
 impl TextureDescriptor {
     // The blocks across a mip.
     pub fn across(self, mip: u32) -> u32
-        ensures answer { result ≡ acrossOf (shape_of self) mip }
+        ensures answer { result ≡ across (shape_of self) mip }
         ensures few { result ≤ 16384 }
     {
         mip_side(self.shape.width, mip).div_ceil(self.shape.format.block_width())
@@ -19,7 +19,7 @@ impl TextureDescriptor {
 
     // The blocks down a mip.
     pub fn down(self, mip: u32) -> u32
-        ensures answer { result ≡ downOf (shape_of self) mip }
+        ensures answer { result ≡ down (shape_of self) mip }
         ensures few { result ≤ 16384 }
     {
         mip_side(self.shape.height, mip).div_ceil(self.shape.format.block_height())
@@ -27,7 +27,7 @@ impl TextureDescriptor {
 
     // The slices of a mip: a flat texture has one.
     pub fn slices(self, mip: u32) -> u32
-        ensures answer { result ≡ slicesOf (shape_of self) mip }
+        ensures answer { result ≡ slices (shape_of self) mip }
         ensures few { result ≤ 64 }
     {
         mip_side(self.depth(), mip)
@@ -38,7 +38,7 @@ impl TextureDescriptor {
         ensures answer { result ≡ surface_cells (shape_of self) mip }
         ensures few { result ≤ 17179869184 }
     {
-        self.slices(mip) as u64 * (self.down(mip) as u64 * self.across(mip) as u64)
+        u64::from(self.slices(mip)) * (u64::from(self.down(mip)) * u64::from(self.across(mip)))
     }
 
     // All cells of the texture, at most 2 to the 40.
@@ -64,7 +64,7 @@ impl TextureDescriptor {
         ensures within { IfSome result (λ first. first + surface_cells (shape_of self) mip ≤ 1099511627776) }
     {
         if self.has_surface(mip, layer) {
-            Some(self.mip_first(mip) + layer as u64 * self.surface_cells(mip))
+            Some(self.mip_first(mip) + u64::from(layer) * self.surface_cells(mip))
         } else {
             None
         }
@@ -84,13 +84,13 @@ impl TextureDescriptor {
         ensures answer { result ≡ layers_of (shape_of self) * surface_cells (shape_of self) mip }
         ensures few { result ≤ 17179869184 }
     {
-        self.layers() as u64 * self.surface_cells(mip)
+        u64::from(self.layers()) * self.surface_cells(mip)
     }
 }
 
 // A side of a mip, at least 1.
-fn mip_side(side: u32, mip: u32) -> u32
-    ensures { result ≡ sideOf side mip }
+fn mip_side(texels: u32, mip: u32) -> u32
+    ensures { result ≡ side texels mip }
 {
-    halved(side, mip).max(1)
+    halved(texels, mip).max(1)
 }

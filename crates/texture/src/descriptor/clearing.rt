@@ -37,10 +37,10 @@ impl TextureDescriptor {
     {
         SurfaceRuns::over(
             first,
-            self.across(mip) as u64,
-            self.block_rows(pitch, mip) as u64,
-            self.down(mip) as u64,
-            self.slices(mip) as u64,
+            u64::from(self.across(mip)),
+            u64::from(self.block_rows(pitch, mip)),
+            u64::from(self.down(mip)),
+            u64::from(self.slices(mip)),
         )
     }
 
