@@ -1,4 +1,4 @@
--- A surface that was found: where it begins, and that its cells are the texture's.
+-- A surface of a texture: it has one of its mips and layers, and its cells are among the texture's.
 use Rattle.std.proofs.Common.{◌≡◌, ℕ, ◌+◌, ◌<◌, ◌≤◌, true, arith}
 use Rattle.std.proofs.lemmas.Bool.Decides.{nat_tests}
 use Rattle.texture.specs.Shapes.{Shape, layers_of, proper}

@@ -1,4 +1,4 @@
--- What seven numbers describe, once it is known what they name.
+-- What a number names, read back from the conversion that names it.
 use Rattle.std.proofs.Common.{◌≡◌, ℕ, Some, None, Ok, Option}
 use Rattle.texture.specs.Numbered.{known}
 
