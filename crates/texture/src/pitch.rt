@@ -15,6 +15,7 @@ impl Pitch {
     pub(crate) fn new(bytes: u32) -> Option<Pitch>
         ensures { MatchOption result (pitch_fits bytes ≡ false) (λ pitch. pitch.bytes ≡ bytes) }
     {
+        // An if: the closure of a `then` would have to require again what was tried.
         if (1..=Self::MAX).contains(&bytes) {
             Some(Pitch { bytes })
         } else {
