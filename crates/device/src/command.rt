@@ -3,8 +3,9 @@ ghost use Rattle.std.specs.Prelude.{◌≡◌};
 ghost use Rattle.device.specs.Commands.{byte_of, covers, fits_in};
 
 // Why the cells are written; only a fill has a byte of its own.
-#[derive(Clone, Copy, Debug, PartialEq, Eq)]
+#[derive(Clone, Copy, Debug, Default, PartialEq, Eq)]
 pub enum CommandKind {
+    #[default]
     Clear,
     Copy,
     Pass,
@@ -12,7 +13,7 @@ pub enum CommandKind {
 }
 
 // The cells of a slot from first on, count of them, and why they are written.
-#[derive(Clone, Copy, Debug, PartialEq, Eq)]
+#[derive(Clone, Copy, Debug, Default, PartialEq, Eq)]
 pub struct Command {
     pub kind: CommandKind,
     pub slot: u8,

@@ -32,7 +32,8 @@ pub trait Device {
     fn allowance(&self) -> u64
         ensures { result ≡ (meaning self.now).allowance };
 
-    // The sum of the bytes of a range, or 0 where the range passes the slot's extent.
+    // The sum of the bytes of a range, or 0 where the range passes the slot's extent. The range comes as three numbers: a
+    // struct of them would be made for this call and taken apart in it.
     fn total(&self, slot: u8, first: u64, count: u64) -> u64
         ensures { result ≡ total_of (meaning self.now) slot first count };
 

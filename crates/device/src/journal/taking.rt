@@ -5,7 +5,7 @@ ghost use Rattle.device.specs.Extents.{extent_within};
 ghost use Rattle.device.specs.Journal.{Continued, meaning_of};
 
 use crate::journal::Journal;
-use crate::journal::sweep::sum_range;
+use crate::journal::sweep::SlotCells;
 use crate::{Command, Device, SLOTS};
 
 // The extent of a slot, and 0 of a slot that there is not.
@@ -52,6 +52,11 @@ impl Device for Journal {
         if first > extent || count > extent - first {
             return 0;
         }
-        sum_range(self.written(), self.start, slot, first, first + count)
+        let cells = SlotCells {
+            records: self.written(),
+            start: self.start,
+            slot,
+        };
+        cells.sum(first, first + count)
     }
 }

@@ -4,13 +4,13 @@ use Rattle.device.specs.Meaning.{ran}
 use Rattle.device.specs.declared.command.Command.{Command}
 use Rattle.device.specs.declared.command.CommandKind.TheVariants.{Clear}
 use Rattle.device.proofs.Cells.{painted_alike, ran_more}
-use Rattle.device.proofs.journal.sweep.next_change.Goals as goal
+use Rattle.device.proofs.journal.sweep.SlotCells.next_change.Goals as goal
 
 pub loop-record-preserved : goal.loop-record-preserved
 loop-record-preserved c =
-    let xs = c.args.records.now in
+    let xs = c.args.self.now.records.now in
     let k = c.loop-record.record-index in
-    let s = c.args.slot in
+    let s = c.args.self.now.slot in
     let none : Command = record { kind = Clear; slot = 0; first = 0; count = 0 } in (
       c.boundary-next.ensures.above,
       omega arith,
