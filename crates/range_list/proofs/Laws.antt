@@ -1,12 +1,12 @@
 -- What the definitions of the ranges mean by positions, and how a drain, pieces and a discard are found from two places in a list.
-use Rattle.std.proofs.Common.{◌≡◌, ℕ, zero, suc, ◌+◌, ◌-◌, ◌*◌, ◌/◌, ◌<◌, ◌≤◌, min, max, Bool, false, not, ◌&&◌, ◌||◌, eqb, ltb, leb, List, [], ◌∷◌, ◌++◌, map, length, get_or, take, drop, sym, refl, ap, ◌∙◌, inl, inr, append_assoc, arith}
+use Rattle.std.proofs.Common.{◌≡◌, ℕ, zero, suc, ◌+◌, ◌-◌, ◌*◌, ◌/◌, ◌<◌, ◌≤◌, min, max, Bool, false, not, ◌&&◌, ◌||◌, eqb, ltb, leb, List, [], ◌∷◌, ◌++◌, length, get_or, take, drop, sym, refl, ap, ◌∙◌, inl, inr, append_assoc, arith}
 use mathlib.Core.Logic.{∥∥₁_elim}
 use native.Mathlib.Bridge.{le_prop}
 use Rattle.std.specs.List.{flat_map}
 use Rattle.std.proofs.lemmas.Bool.{cond_both, cases_lt, cond-true, cond-false, lt-ltb, le-ltb, ltb-true, ltb-false, eqb-true, eqb-false, leb-true, leb-false, ne_eqb, eq-eqb, le-leb, lt-leb}
-use Rattle.std.proofs.lemmas.List.{drop_more, drop_all, get_or_default, take-append-drop, length-map, length-take, length-drop}
+use Rattle.std.proofs.lemmas.List.{drop_more, drop_all, get_or_default, take-append-drop}
 use Rattle.std.proofs.lemmas.Bool.Decides.{nat_tests}
-use Rattle.range_list.specs.Ranges.{SoundFrom, Sound, inside, member, part, clip, pieces, cut, drained, begun, closed, join, discarded, count, lengths, clipped, whole}
+use Rattle.range_list.specs.Ranges.{SoundFrom, Sound, inside, member, part, clip, pieces, cut, drained, begun, closed, join, discarded, count, lengths, whole}
 
 -- the one range of a part that is not empty, and none of one that is
 pub part_some : (a b : ℕ) → a < b → part a b ≡ (a, b) ∷ []
@@ -269,35 +269,6 @@ drained_closed lo hi n i k rs lt h s t u v il kl =
     let ik : i ≤ k = elim (cases_lt k i) [ inl q ↦ omega (arith, s k (0, 0) q, v k (0, 0) (omega arith) (omega arith)) | inr q ↦ q ] in
     (ik, cond-true (ltb lo hi) (flat_map (cut lo hi) rs) rs (lt-ltb lo hi lt) ∙ cuts_closed lo hi 0 n i k rs lt h s t u v ik kl)
 
--- pieces by an index and a count
-pub pieces_at : (lo hi b n i c : ℕ) (rs : List (ℕ × ℕ)) → lo < hi → SoundFrom b n rs
-    → ((m : ℕ) (d : ℕ × ℕ) → m < i → (get_or rs m d).1 ≤ lo)
-    → ((m : ℕ) (d : ℕ × ℕ) → i ≤ m → m < length rs → lo < (get_or rs m d).1)
-    → ((m : ℕ) (d : ℕ × ℕ) → m < i + c → (get_or rs m d).0 < hi)
-    → ((m : ℕ) (d : ℕ × ℕ) → i + c ≤ m → m < length rs → hi ≤ (get_or rs m d).0)
-    → i + c ≤ length rs
-    → pieces lo hi rs ≡ map (clipped lo hi) (take c (drop i rs))
-pieces_at lo hi b n zero zero [] lt h s t u v le = refl
-pieces_at lo hi b n zero (suc c) [] lt h s t u v le = refl
-pieces_at lo hi b n (suc i) zero [] lt h s t u v le = refl
-pieces_at lo hi b n (suc i) (suc c) [] lt h s t u v le = refl
-pieces_at lo hi b n zero zero (r ∷ rs) lt h s t u v le =
-    let ge : hi ≤ r.0 = v 0 r (omega arith) (omega arith) in
-    let a = part_none (max r.0 lo) (min r.1 hi) (omega arith) in
-    let e = pieces_at lo hi (r.1 + 1) n zero zero rs lt h.3 (λ m d q. absurd (omega arith)) (λ m d q w. t (suc m) d (omega arith) (omega arith)) (λ m d q. absurd (omega arith)) (λ m d q w. v (suc m) d (omega arith) (omega arith)) (omega arith) in
-    rw a e
-pieces_at lo hi b n zero (suc c) (r ∷ rs) lt h s t u v le =
-    let gt : lo < r.1 = t 0 r (omega arith) (omega arith) in
-    let st : r.0 < hi = u 0 r (omega arith) in
-    let a = part_some (max r.0 lo) (min r.1 hi) (omega arith) in
-    let e = pieces_at lo hi (r.1 + 1) n zero c rs lt h.3 (λ m d q. absurd (omega arith)) (λ m d q w. t (suc m) d (omega arith) (omega arith)) (λ m d q. u (suc m) d (omega arith)) (λ m d q w. v (suc m) d (omega arith) (omega arith)) (omega arith) in
-    rw a (ap (λ l. (max r.0 lo, min r.1 hi) ∷ l) e)
-pieces_at lo hi b n (suc i) c (r ∷ rs) lt h s t u v le =
-    let ge : r.1 ≤ lo = s 0 r (omega arith) in
-    let a = part_none (max r.0 lo) (min r.1 hi) (omega arith) in
-    let e = pieces_at lo hi (r.1 + 1) n i c rs lt h.3 (λ m d q. s (suc m) d (omega arith)) (λ m d q w. t (suc m) d (omega arith) (omega arith)) (λ m d q. u (suc m) d (omega arith)) (λ m d q w. v (suc m) d (omega arith) (omega arith)) (omega arith) in
-    rw a e
-
 pub pieces_none : (lo hi : ℕ) (rs : List (ℕ × ℕ)) → hi ≤ lo → pieces lo hi rs ≡ []
 pieces_none lo hi [] le = refl
 pieces_none lo hi (r ∷ rs) le = rw (part_none (max r.0 lo) (min r.1 hi) (omega arith)) (pieces_none lo hi rs le)
@@ -378,61 +349,6 @@ module _ (b n p i : ℕ) (rs : List (ℕ × ℕ)) (h : SoundFrom b n rs)
             k ∙ rw e (ap (λ l. take i rs ++ l) f)
         | inr ge ↦ let e = drop_all i rs ge in k ∙ rw e
       ]
-
--- how the first range that starts by hi is found from the first that ends after it
-module _ (n k hi : ℕ) (rs : List (ℕ × ℕ)) (h : Sound n rs)
-    (s : (m : ℕ) (d : ℕ × ℕ) → m < k → (get_or rs m d).1 ≤ hi)
-    (t : (m : ℕ) (d : ℕ × ℕ) → k ≤ m → m < length rs → hi < (get_or rs m d).1) where
-  pub starts_before : k ≤ length rs → (m : ℕ) (d : ℕ × ℕ) → m < k → (get_or rs m d).0 < hi
-  starts_before le m d lt = omega (arith, s m d lt, filled 0 n m rs d h (omega arith))
-
-  pub starts_before_more : (e : ℕ × ℕ) → k < length rs → (get_or rs k e).0 < hi → (m : ℕ) (d : ℕ × ℕ) → m < k + 1 → (get_or rs m d).0 < hi
-  starts_before_more e lt q m d ml =
-      elim (cases_lt m k) [
-        | inl w ↦ starts_before (omega arith) m d w
-        | inr w ↦
-            let mk : m ≡ k = omega arith in
-            let x : (get_or rs m d).0 ≡ (get_or rs k d).0 = ap (λ i. (get_or rs i d).0) mk in
-            let y : (get_or rs k d).0 ≡ (get_or rs k e).0 = ap (λ r. r.0) (get_or_default rs k d e lt) in
-            omega arith
-      ]
-
-  pub starts_after : (m : ℕ) (d : ℕ × ℕ) → k + 1 ≤ m → m < length rs → hi ≤ (get_or rs m d).0
-  starts_after m d le lt = omega (arith, apart 0 n k m rs d h (omega arith) lt, t k d (omega arith) (omega arith))
-
-  pub starts_after_same : (e : ℕ × ℕ) → (k < length rs → hi ≤ (get_or rs k e).0) → (m : ℕ) (d : ℕ × ℕ) → k ≤ m → m < length rs → hi ≤ (get_or rs m d).0
-  starts_after_same e q m d km lt =
-      elim (cases_lt k m) [
-        | inl w ↦ starts_after m d (omega arith) lt
-        | inr w ↦
-            let mk : m ≡ k = omega arith in
-            let kl : k < length rs = omega arith in
-            let x : (get_or rs m d).0 ≡ (get_or rs k d).0 = ap (λ i. (get_or rs i d).0) mk in
-            let y : (get_or rs k d).0 ≡ (get_or rs k e).0 = ap (λ r. r.0) (get_or_default rs k d e kl) in
-            omega (arith, q kl)
-      ]
-
-module _ (lo hi n i j : ℕ) (rs : List (ℕ × ℕ)) (lt : lo < hi) (h : Sound n rs)
-    (s : (m : ℕ) (d : ℕ × ℕ) → m < i → (get_or rs m d).1 ≤ lo)
-    (t : (m : ℕ) (d : ℕ × ℕ) → i ≤ m → m < length rs → lo < (get_or rs m d).1)
-    (u : (m : ℕ) (d : ℕ × ℕ) → m < j → (get_or rs m d).0 < hi)
-    (v : (m : ℕ) (d : ℕ × ℕ) → j ≤ m → m < length rs → hi ≤ (get_or rs m d).0)
-    (il : i ≤ length rs) (jl : j ≤ length rs) where
-  pub in_order : i ≤ j
-  in_order = elim (cases_lt j i) [
-    | inl q ↦ omega (arith, s j (0, 0) q, v j (0, 0) (omega arith) (omega arith), filled 0 n j rs (0, 0) h (omega arith))
-    | inr q ↦ q
-  ]
-
-  pub pieces_are : pieces lo hi rs ≡ map (clipped lo hi) (take (j - i) (drop i rs))
-  pieces_are =
-      let o = in_order in
-      pieces_at lo hi 0 n i (j - i) rs lt h s t (λ m d q. u m d (omega arith)) (λ m d q w. v m d (omega arith) w) (omega arith)
-
-  pub pieces_count : length (pieces lo hi rs) ≡ j - i
-  pieces_count =
-      let o = in_order in
-      ap length pieces_are ∙ simp (length-map, length-take, length-drop) (omega arith)
 
 -- nothing of lo..hi is left in what was drained of it
 pieces_append : (lo hi : ℕ) (xs ys : List (ℕ × ℕ)) → pieces lo hi (xs ++ ys) ≡ pieces lo hi xs ++ pieces lo hi ys

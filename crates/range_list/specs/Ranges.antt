@@ -1,6 +1,6 @@
 -- Ranges as pairs of positions, the end exclusive.
 use Rattle.std.specs.Prelude.{ℕ, zero, suc, ◌+◌, ◌-◌, ◌<◌, ◌≤◌, min, max, Bool, false, cond, ◌&&◌, ◌||◌, List, [], ◌∷◌, ◌++◌, take, drop, Some, None, Option, ◌==◌, nat_le, nat_lt}
-use Rattle.std.specs.List.{flat_map}
+use Rattle.std.specs.List.{flat_map, filter}
 
 -- from b on and up to n: non-empty, ascending, a gap between neighbours
 abbrev pub SoundFrom : ℕ → ℕ → List (ℕ × ℕ) → Type 0
@@ -10,6 +10,10 @@ SoundFrom b n (r ∷ rs) = (b ≤ r.0) × (r.0 < r.1) × (r.1 ≤ n) × SoundFro
 -- a list within n: its ranges non-empty, ascending, with gaps
 abbrev pub Sound : ℕ → List (ℕ × ℕ) → Type 0
 Sound n rs = SoundFrom 0 n rs
+
+-- a list that is sound within some n
+abbrev pub IsSound : List (ℕ × ℕ) → Type 0
+IsSound rs = (n : ℕ) × Sound n rs
 
 -- p lies from lo up to hi
 abbrev pub inside : ℕ → ℕ → ℕ → Bool
@@ -39,6 +43,14 @@ pieces lo hi rs = flat_map (clip lo hi) rs
 -- a range that meets lo..hi, cut to it
 abbrev pub clipped : ℕ → ℕ → ℕ × ℕ → ℕ × ℕ
 clipped lo hi r = (max r.0 lo, min r.1 hi)
+
+-- whether a range meets lo..hi, which an empty or backward query does with none
+abbrev pub meets : ℕ → ℕ → ℕ × ℕ → Bool
+meets lo hi r = nat_lt lo hi && (nat_lt lo r.1 && nat_lt r.0 hi)
+
+-- the ranges that meet lo..hi
+abbrev pub meeting : ℕ → ℕ → List (ℕ × ℕ) → List (ℕ × ℕ)
+meeting lo hi rs = filter (meets lo hi) rs
 
 -- where the answer ends that begins in r: at the query's end if the next range starts before that, else at the earlier end
 abbrev pub upto : ℕ × ℕ → List (ℕ × ℕ) → ℕ → ℕ

@@ -18,9 +18,13 @@ abbrev pub view : {I : Type 0} → (I → ℕ) → InitTracker I → List (ℕ �
 view p t = all_ends p (take t.len t.places.now)
 
 -- an answer by the positions of its ends
-abbrev pub positions : {I : Type 0} → (I → ℕ) → Option (I × I) → Option (ℕ × ℕ)
+abbrev pub positions : {I : Type 0} → (I → ℕ) → Option (Span I) → Option (ℕ × ℕ)
 positions p None = None
-positions p (Some r) = Some (p r.0, p r.1)
+positions p (Some s) = Some (ends p s)
+
+-- the same places are lent, as many as before
+abbrev pub SamePlaces : {I : Type 0} → InitTracker I → InitTracker I → Type 0
+SamePlaces old new = (length new.places.now ≡ length old.places.now) × (new.places.ghost_name ≡ old.places.ghost_name)
 
 -- a call that was declined for want of a place changed none, since the list that it would leave has more ranges than places
 abbrev pub Declined : {I : Type 0} → InitTracker I → InitTracker I → List (ℕ × ℕ) → Refusal → Type 0

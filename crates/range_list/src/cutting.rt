@@ -1,69 +1,49 @@
 // The pieces of a query that are uninitialized: the ranges that meet it, cut to it.
-ghost use Rattle.std.specs.Prelude.{◌≡◌, ℕ, ◌+◌, ◌<◌, ◌≤◌, map, length, take, drop, MatchResult};
-ghost use Rattle.fault.specs.declared.refusal.Refusal.TheVariants.{PlacesFull};
-ghost use Rattle.range_list.specs.Ranges.{Sound, pieces as pieces_of, clipped};
+ghost use Rattle.std.specs.Prelude.{◌≡◌, ◌≤◌, map, length, take, drop, MatchResult};
+ghost use Rattle.range_list.specs.Ranges.{IsSound, pieces as pieces_of, clipped};
 ghost use Rattle.range_list.specs.View.{all_ends, view, Wrote, Unwritten};
 
-use crate::bisect::{first_ending_after, starting_before};
+use crate::bisect::meeting;
 use crate::list::InitTracker;
 use crate::span::Span;
 use fault::Refusal;
-use index::{Index, earlier, later};
+use index::Index;
 
-// Writes the ranges from `i` on, `count` of them, each cut to `from`..`to`.
-fn write_cut<I: Index>(
-    ranges: &[Span<I>],
-    i: usize,
-    count: usize,
-    from: I,
-    to: I,
-    out: &mut [Span<I>],
-)
-    requires at { i + count ≤ length ranges.now }
-    requires room { count ≤ length out.old }
-    ensures held { all_ends I.Index.position (take count out.new) ≡ map (clipped (I.Index.position from) (I.Index.position to)) (take count (drop i (all_ends I.Index.position ranges.now))) }
-    ensures rest { drop count out.new ≡ drop count out.old }
+// Writes these ranges, each cut to the query, into the first places.
+fn write_cut<I: Index>(ranges: &[Span<I>], query: Span<I>, out: &mut [Span<I>])
+    requires room { length ranges.now ≤ length out.old }
+    ensures cut { all_ends I.Index.position (take (length ranges.now) out.new) ≡ map (clipped (I.Index.position query.start) (I.Index.position query.end)) (all_ends I.Index.position ranges.now) }
+    ensures rest { drop (length ranges.now) out.new ≡ drop (length ranges.now) out.old }
 {
-    for t in 0..count {
-        let s = ranges[i + t];
-        out[t] = Span {
-            start: later(s.start, from),
-            end: earlier(s.end, to),
-        };
+    // By index, since a proof knows no element that was written through `iter_mut`.
+    for (k, range) in ranges.iter().enumerate() {
+        out[k] = range.cut(query);
     }
 }
 
-// Writes the pieces of `from`..`to` in these ranges and says how many; with fewer places than pieces it declines and writes none.
+// Writes the pieces of the query in these ranges and says how many; with fewer places than pieces it declines and writes none.
 pub fn pieces<I: Index>(
     ranges: &[Span<I>],
-    from: I,
-    to: I,
+    query: Span<I>,
     out: &mut [Span<I>],
 ) -> Result<usize, Refusal>
-    requires sound { (n : ℕ) × Sound n (all_ends I.Index.position ranges.now) }
-    ensures { MatchResult result (Wrote I.Index.position out.old out.new (pieces_of (I.Index.position from) (I.Index.position to) (all_ends I.Index.position ranges.now))) (Unwritten out.old out.new (pieces_of (I.Index.position from) (I.Index.position to) (all_ends I.Index.position ranges.now))) }
+    requires sound { IsSound (all_ends I.Index.position ranges.now) }
+    ensures { MatchResult result (Wrote I.Index.position out.old out.new (pieces_of (I.Index.position query.start) (I.Index.position query.end) (all_ends I.Index.position ranges.now))) (Unwritten out.old out.new (pieces_of (I.Index.position query.start) (I.Index.position query.end) (all_ends I.Index.position ranges.now))) }
 {
-    if !from.before(to) {
-        return Ok(0);
-    }
-    let i = first_ending_after(ranges, from);
-    let j = starting_before(ranges, to);
-    let count = j - i;
-    if out.len() < count {
+    let met = meeting(ranges, query);
+    if out.len() < met.len() {
         return Err(Refusal::PlacesFull);
     }
-    write_cut(ranges, i, count, from, to, out);
-    Ok(count)
+    write_cut(met, query, out);
+    Ok(met.len())
 }
 
 impl<'a, I: Index> InitTracker<'a, I> {
-    // Writes the uninitialized pieces of `from`..`to` and says how many; with fewer places than pieces it declines and writes none.
-    pub fn uninitialized(&self, from: I, to: I, out: &mut [Span<I>]) -> Result<usize, Refusal>
-        requires fits { self.now.len ≤ length self.now.places.now }
-        requires sound { (n : ℕ) × Sound n (view I.Index.position self.now) }
-        ensures { MatchResult result (Wrote I.Index.position out.old out.new (pieces_of (I.Index.position from) (I.Index.position to) (view I.Index.position self.now))) (Unwritten out.old out.new (pieces_of (I.Index.position from) (I.Index.position to) (view I.Index.position self.now))) }
+    // Writes the uninitialized pieces of the query and says how many; with fewer places than pieces it declines and writes none.
+    pub fn uninitialized(&self, query: Span<I>, out: &mut [Span<I>]) -> Result<usize, Refusal>
+        requires sound { IsSound (view I.Index.position self.now) }
+        ensures { MatchResult result (Wrote I.Index.position out.old out.new (pieces_of (I.Index.position query.start) (I.Index.position query.end) (view I.Index.position self.now))) (Unwritten out.old out.new (pieces_of (I.Index.position query.start) (I.Index.position query.end) (view I.Index.position self.now))) }
     {
-        let n = self.len;
-        pieces(&self.places[0..n], from, to, out)
+        pieces(self.ranges(), query, out)
     }
 }

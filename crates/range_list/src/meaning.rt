@@ -2,15 +2,11 @@
 ghost use Rattle.range_list.specs.Stated.{RangeLaws, Trials};
 
 // The laws of the definitions, by positions, hold.
-pub fn laws_stand() -> u8
+pub fn laws_stand()
     ensures { RangeLaws }
-{
-    0
-}
+{}
 
 // The definitions have their trial values.
-pub fn trials_stand() -> u8
+pub fn trials_stand()
     ensures { Trials }
-{
-    0
-}
+{}

@@ -1,56 +1,14 @@
-use Rattle.std.proofs.Common.{◌≡◌, ◌<◌, ◌≤◌, get_or, ap, arith}
-use Rattle.std.proofs.lemmas.List.{get_or-map, length-map}
-use Rattle.range_list.specs.View.{ends, all_ends}
-use Rattle.range_list.proofs.Laws.{starts_before, starts_before_more, starts_after, starts_after_same}
-use Rattle.range_list.proofs.Orders.{is_before, is_after}
+use Rattle.std.proofs.Common.{◌<◌, ◌≤◌, ltb, ltb-true, ltb-false, rules}
+use Rattle.std.proofs.lemmas.List.Sorted.{IsPartitionPoint-from_clause, IsPartitionedBy-ltb}
+use Rattle.range_list.specs.View.{ends}
+use Rattle.range_list.proofs.Points.{point_seen, starts_rise}
 use Rattle.range_list.proofs.bisect.starting_before.Goals as goal
 
-pub returns-then-before : goal.returns-then-before
-returns-then-before g c =
+pub returns-clause-point : goal.returns-clause-point
+returns-clause-point g c =
     let p = g.I.Index.position in
+    let at = p c.args.at in
     let xs = c.args.ranges.now in
-    let k = c.first_ending_after-k.result in
-    let f = c.first_ending_after-k.ensures in
-    let hi = p c.args.to in
-    let x = c.index-ranges-k.result in
-    let l = length-map xs (ends p) in
-    let e : (get_or (all_ends p xs) k (0, 0)).0 ≡ p (get_or xs k x).start = ap (λ r. r.0) (get_or-map (ends p) xs k x (0, 0) (omega arith)) in
-    let is : p x.start ≡ p (get_or xs k x).start = ap (λ y. p y.start) c.index-ranges-k.is in
-    let lt : p x.start < hi = is_before (p x.start) hi c.if-before.ensures in
-    record {
-      within = omega arith;
-      before = starts_before_more c.requires.0 k hi (all_ends p xs) c.requires.1 f.before (λ m d q w. f.after m d q (omega arith)) (0, 0) (omega arith) (omega arith);
-      after = λ m d q w. starts_after c.requires.0 k hi (all_ends p xs) c.requires.1 f.before (λ m d q w. f.after m d q (omega arith)) m d q (omega arith);
-    }
-
-pub returns-else-before : goal.returns-else-before
-returns-else-before g c =
-    let p = g.I.Index.position in
-    let xs = c.args.ranges.now in
-    let k = c.first_ending_after-k.result in
-    let f = c.first_ending_after-k.ensures in
-    let hi = p c.args.to in
-    let x = c.index-ranges-k.result in
-    let l = length-map xs (ends p) in
-    let e : (get_or (all_ends p xs) k (0, 0)).0 ≡ p (get_or xs k x).start = ap (λ r. r.0) (get_or-map (ends p) xs k x (0, 0) (omega arith)) in
-    let is : p x.start ≡ p (get_or xs k x).start = ap (λ y. p y.start) c.index-ranges-k.is in
-    let ge : hi ≤ p x.start = is_after (p x.start) hi c.if-before.ensures in
-    record {
-      within = omega arith;
-      before = starts_before c.requires.0 k hi (all_ends p xs) c.requires.1 f.before (λ m d q w. f.after m d q (omega arith)) (omega arith);
-      after = λ m d q w. starts_after_same c.requires.0 k hi (all_ends p xs) c.requires.1 f.before (λ m d q w. f.after m d q (omega arith)) (0, 0) (λ _. omega arith) m d q (omega arith);
-    }
-
-pub returns-else-k-ranges : goal.returns-else-k-ranges
-returns-else-k-ranges g c =
-    let p = g.I.Index.position in
-    let xs = c.args.ranges.now in
-    let k = c.first_ending_after-k.result in
-    let f = c.first_ending_after-k.ensures in
-    let hi = p c.args.to in
-    let l = length-map xs (ends p) in
-    record {
-      within = omega arith;
-      before = starts_before c.requires.0 k hi (all_ends p xs) c.requires.1 f.before (λ m d q w. f.after m d q (omega arith)) (omega arith);
-      after = λ m d q w. absurd (omega arith);
-    }
+    let parted = IsPartitionedBy-ltb (λ s. p s.start) xs at (starts_rise p xs c.requires) in
+    let point = IsPartitionPoint-from_clause (λ s. ltb (p s.start) at) xs _ c.partition_point.ensures.partitioned parted (λ a r q k. search rules) in
+    point_seen (ends p) _ _ (λ r. r.0 < at) (λ r. at ≤ r.0) xs _ c.partition_point.ensures.bound (λ s e. ltb-true (p s.start) at e) (λ s e. ltb-false (p s.start) at e) point

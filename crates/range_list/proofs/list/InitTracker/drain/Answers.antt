@@ -1,66 +1,44 @@
-use Rattle.std.proofs.Common.{◌≡◌, ◌<◌, sym, ap, ◌∙◌, subst, arith, MatchResult}
+use Rattle.std.proofs.Common.{◌≡◌, ◌<◌, sym, ap, ◌∙◌, subst, arith}
+use Rattle.std.proofs.lemmas.Bool.Decides.{nat_tests}
 use Rattle.range_list.specs.Ranges.{Sound, closed, drained}
-use Rattle.range_list.specs.View.{view, Declined}
-use Rattle.range_list.proofs.Laws.{drained_closed, sound_drained}
-use Rattle.range_list.proofs.Steps.{view_length, view_same, cases_to}
-use Rattle.range_list.proofs.Orders.{is_before}
+use Rattle.range_list.specs.View.{view}
+use Rattle.range_list.proofs.Laws.{sound_drained}
+use Rattle.range_list.proofs.Points.{drained_at}
+use Rattle.range_list.proofs.Steps.{view_length, left_by, left_sound}
 use Rattle.range_list.proofs.list.InitTracker.drain.Goals as goal
 
-pub returns-then-i-k : goal.returns-then-i-k
-returns-then-i-k g c =
+pub returns-then-i-k-clause-held : goal.returns-then-i-k-clause-held
+returns-then-i-k-clause-held g c =
     let p = g.I.Index.position in
     let old = c.args.self.now in
-    let i = c.find-i.result in
-    let k = c.find-k.result in
-    let lo = p c.args.from in
-    let hi = p c.args.to in
-    let lt : lo < hi = is_before lo hi c.if-not-before.ensures in
-    let l = view_length p old c.requires.fits in
-    let f = c.find-i.ensures in
-    let h = c.find-k.ensures in
-    let e = (drained_closed lo hi c.requires.sound.0 i k (view p old) lt c.requires.sound.1 f.before (λ m d q w. f.after m d q (omega arith)) h.before (λ m d q w. h.after m d q (omega arith)) (omega arith) (omega arith)).1 in
-    let held : view p c.close.new.self ≡ drained lo hi (view p old) = c.close.ensures.held ∙ sym e in
-    record {
-      within = c.close.ensures.within;
-      lent = c.close.ensures.lent;
-      room = c.close.ensures.room;
-      held = held;
-      sound = λ n s. subst (Sound n) (sym held) (sound_drained lo hi n (view p old) s);
-    }
+    let q = c.args.query in
+    let lt : p q.start < p q.end = grind (arith, nat_tests, c.if-is_empty.ensures) in
+    let l = view_length p old in
+    let e = drained_at (p q.start) (p q.end) c.find-i.result c.find-k.result (view p old) lt c.requires.sound c.find-i.ensures.point c.find-k.ensures.point (omega arith) (omega arith) in
+    c.close.ensures.held ∙ sym e.1
 
-pub returns : goal.returns
-returns g c =
+pub returns-then-i-k-clause-sound : goal.returns-then-i-k-clause-sound
+returns-then-i-k-clause-sound g c =
+    let p = g.I.Index.position in
+    let q = c.args.query in
+    λ n s. subst (Sound n) (sym (returns-then-i-k-clause-held g c)) (sound_drained (p q.start) (p q.end) n (view p c.args.self.now) s)
+
+pub returns-clause-held : goal.returns-clause-held
+returns-clause-held g c =
     let p = g.I.Index.position in
     let old = c.args.self.now in
-    let new = c.split.new.self in
+    let q = c.args.query in
     let i = c.find-i.result in
     let k = c.find-k.result in
-    let lo = p c.args.from in
-    let hi = p c.args.to in
-    let lt : lo < hi = is_before lo hi c.if-not-before.ensures in
-    let l = view_length p old c.requires.fits in
-    let f = c.find-i.ensures in
-    let h = c.find-k.ensures in
-    let e = drained_closed lo hi c.requires.sound.0 i k (view p old) lt c.requires.sound.1 f.before (λ m d q w. f.after m d q (omega arith)) h.before (λ m d q w. h.after m d q (omega arith)) (omega arith) (omega arith) in
+    let lt : p q.start < p q.end = grind (arith, nat_tests, c.if-is_empty.ensures) in
+    let l = view_length p old in
+    let e = drained_at (p q.start) (p q.end) i k (view p old) lt c.requires.sound c.find-i.ensures.point c.find-k.ensures.point (omega arith) (omega arith) in
     let ki : k ≡ i = omega (arith, e.0) in
-    let q : closed lo hi i i (view p old) ≡ drained lo hi (view p old) = sym (e.1 ∙ ap (λ m. closed lo hi i m (view p old)) ki) in
-    let held = subst (λ r. MatchResult c.split.result (λ _. view p new ≡ r) (Declined old new r)) q c.split.ensures.held in
-    record {
-      within = c.split.ensures.within;
-      lent = c.split.ensures.lent;
-      room = c.split.ensures.room;
-      held = held;
-      sound = λ n s. cases_to c.split.result held (λ _ v. subst (Sound n) (sym v) (sound_drained lo hi n (view p old) s)) (λ _ v. subst (Sound n) (sym (view_same p new old v.1 v.2)) s);
-    }
+    left_by p old c.split.new.self c.split.result _ _ (sym (e.1 ∙ ap (λ m. closed (p q.start) (p q.end) i m (view p old)) ki)) c.split.ensures.held
 
-pub find-i-requires : goal.find-i-requires
-find-i-requires g c = record { fits = c.requires.fits; sound = c.requires.sound }
-
-pub find-k-requires : goal.find-k-requires
-find-k-requires g c = record { fits = c.requires.fits; sound = c.requires.sound }
-
-pub close-requires : goal.close-requires
-close-requires g c = record { at = (omega arith, omega arith); fits = c.requires.fits }
-
-pub split-requires : goal.split-requires
-split-requires g c = record { at = omega arith; fits = c.requires.fits; order = is_before (g.I.Index.position c.args.from) (g.I.Index.position c.args.to) c.if-not-before.ensures }
+pub returns-clause-sound : goal.returns-clause-sound
+returns-clause-sound g c =
+    let p = g.I.Index.position in
+    let old = c.args.self.now in
+    let q = c.args.query in
+    λ n s. left_sound p old c.split.new.self c.split.result (drained (p q.start) (p q.end) (view p old)) n (returns-clause-held g c) s (sound_drained (p q.start) (p q.end) n (view p old) s)

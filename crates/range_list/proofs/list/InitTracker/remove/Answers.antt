@@ -1,19 +1,13 @@
-use Rattle.std.proofs.Common.{◌≡◌, ◌-◌, map, length, take, refl, ap, ◌∙◌, arith, length-take}
-use borrow.Rule.Slice.PartMut.{post_of}
+use Rattle.std.proofs.Common.{◌-◌, map, take, ap, ◌∙◌, arith}
 use Rattle.range_list.specs.View.{ends}
-use Rattle.range_list.proofs.Moves.{room, map_removed}
-use Rattle.range_list.proofs.Shifts.{removed_held}
+use Rattle.range_list.proofs.Moves.{map_removed}
+use Rattle.range_list.proofs.Shifts.{removed}
 use Rattle.range_list.proofs.list.InitTracker.remove.Goals as goal
 
-pub returns : goal.returns
-returns g c =
+pub returns-clause-held : goal.returns-clause-held
+returns-clause-held g c =
     let xs = c.args.self.now.places.now in
     let n = c.args.self.now.len in
-    let i = c.args.i in
-    let k = c.args.k in
-    let q = c.move_down.new.part in
     let f = ends g.I.Index.position in
-    let l : length q ≡ n = c.move_down.auto.part ∙ length-take (n - 0) xs ∙ omega arith in
-    let h = removed_held xs q (post_of 0 (n - 0) xs) n i k (omega arith) (omega arith) (omega arith) l c.move_down.ensures in
-    let r = room xs q 0 (n - 0) (omega arith) (omega arith) in
-    record { within = omega arith; lent = refl; room = r; held = ap (map f) h ∙ map_removed f (take n xs) i k }
+    ap (λ l. map f (take (n - (c.args.k - c.args.i)) l)) c.copy_within.ensures.after
+    ∙ ap (map f) (removed xs n c.args.i c.args.k (omega arith) (omega arith) (omega arith)) ∙ map_removed f (take n xs) c.args.i c.args.k
