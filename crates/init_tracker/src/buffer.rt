@@ -1,19 +1,22 @@
 // The book of one buffer: the byte ranges that are still uninitialized, in 64 places.
-ghost use Rattle.std.specs.Prelude.{◌≡◌, ℕ, ◌≤◌, length, take};
-ghost use Rattle.range_list.specs.Ranges.{Sound};
-ghost use Rattle.range_list.specs.View.{all_ends};
+ghost use Rattle.std.specs.Prelude.{◌≡◌};
+ghost use Rattle.range_list.specs.Ranges.{whole};
+ghost use Rattle.init_tracker.specs.Books.{owing};
 
+use crate::book::Book;
 use range_list::Span;
 
-mod calls;
-mod measure;
+pub type BufferInitTracker = Book<u64, 64>;
 
-#[derive(Clone, Copy)]
-pub struct BufferInitTracker {
-    places: [Span<u64>; 64],
-    len: usize,
-    size: u64,
-    ghost full: { length places ≡ 64 },
-    ghost fits: { len ≤ 64 },
-    ghost sound: { ∥ Sound size (all_ends (λ x. x) (take len places)) ∥₁ },
+impl BufferInitTracker {
+    // The book of a new buffer, of which no byte is initialized.
+    pub fn new(size: u64) -> BufferInitTracker
+        ensures owing { owing result ≡ whole size }
+        ensures size { result.size ≡ size }
+    {
+        Book::owing(Span {
+            start: 0,
+            end: size,
+        })
+    }
 }

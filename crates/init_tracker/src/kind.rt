@@ -1,6 +1,6 @@
 // What an action means for the memory that it touches: it fills it, or it needs it filled.
 
-#[derive(Clone, Copy)]
+#[derive(Clone, Copy, Debug, PartialEq, Eq)]
 pub enum MemoryInitKind {
     ImplicitlyInitialized,
     NeedsInitializedMemory,

@@ -3,7 +3,7 @@
 
 mod bisect;
 mod cutting;
-mod discard;
+mod discarding;
 mod draining;
 mod edit;
 mod list;
@@ -13,6 +13,7 @@ mod shift;
 mod span;
 
 pub use cutting::pieces;
+pub use discarding::discard;
 pub use draining::drain;
 pub use index::{Index, Stepping};
 pub use list::InitTracker;

@@ -1,7 +1,7 @@
 // A discard: one index comes back into the list, joined with the ranges that it touches.
-ghost use Rattle.std.specs.Prelude.{◌≡◌, ◌+◌, ◌≤◌, ◌++◌, take, drop, MatchResult};
+ghost use Rattle.std.specs.Prelude.{◌≡◌, ◌+◌, ◌≤◌, ◌++◌, length, take, drop, MatchResult};
 ghost use Rattle.range_list.specs.Ranges.{Sound, join, added};
-ghost use Rattle.range_list.specs.View.{ends, view, Declined, SamePlaces};
+ghost use Rattle.range_list.specs.View.{ends, all_ends, view, Declined, SamePlaces, Unwritten};
 
 use crate::list::InitTracker;
 use crate::span::Span;
@@ -60,4 +60,20 @@ impl<'a, I: Stepping> InitTracker<'a, I> {
             }
         }
     }
+}
+
+// The same over a slice whose first `len` places hold the list, which are the caller's: how many hold it then.
+pub fn discard<I: Stepping>(
+    places: &mut [Span<I>],
+    len: usize,
+    at: I,
+    size: I,
+) -> Result<usize, Refusal>
+    requires fits { len ≤ length places.old }
+    requires sound { Sound (I.Index.position size) (all_ends I.Index.position (take len places.old)) }
+    ensures { MatchResult result (λ n. (n ≤ length places.new) × (all_ends I.Index.position (take n places.new) ≡ added (I.Index.position at) (I.Index.position size) (all_ends I.Index.position (take len places.old)))) (Unwritten places.old places.new (added (I.Index.position at) (I.Index.position size) (all_ends I.Index.position (take len places.old)))) }
+{
+    let mut list = InitTracker::over(places, len);
+    list.discard(at, size)?;
+    Ok(list.count())
 }
