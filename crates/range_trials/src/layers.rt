@@ -1,36 +1,37 @@
 // A list of layers beside the set of positions that it should owe.
-use crate::sets::{POSITIONS, between, checked, has, low, only, runs, same};
+use crate::sets::{between, checked, has, low, only, runs, single, those};
 use crate::tally::Tally;
 use init_tracker::LayerInitTracker;
+use range_list::Span;
+
+// A query's positions as layers.
+fn layers_of(query: Span<u64>) -> Span<u32> {
+    Span {
+        start: low(query.start),
+        end: low(query.end),
+    }
+}
 
 // The list of `size` layers from which those outside the set are drained; none where there is no list of so many.
 pub(crate) fn made(size: u64, set: u64) -> Option<LayerInitTracker> {
     let mut list = LayerInitTracker::new(low(size))?;
-    for p in 0..size {
-        if !has(set, p) {
-            list.drain(low(p), low(p.wrapping_add(1)));
-        }
+    for p in (0..size).filter(|&p| !has(set, p)) {
+        list.drain(layers_of(single(p)));
     }
     Some(list)
 }
 
 // What the list has to have filled of a query.
-fn answer(list: &LayerInitTracker, from: u64, to: u64) -> Option<(u64, u64)> {
-    match list.check(low(from), low(to)) {
-        Some(r) => Some((u64::from(r.0), u64::from(r.1))),
-        None => None,
-    }
+fn answer(list: &LayerInitTracker, query: Span<u64>) -> Option<Span<u64>> {
+    list.check(layers_of(query)).map(|part| Span {
+        start: u64::from(part.start),
+        end: u64::from(part.end),
+    })
 }
 
 // The positions that the list owes, each asked for alone.
 fn owed(list: &LayerInitTracker) -> u64 {
-    let mut set = 0;
-    for p in 0..POSITIONS {
-        if answer(list, p, p.wrapping_add(1)).is_some() {
-            set |= only(p);
-        }
-    }
-    set
+    those(|p| answer(list, single(p)).is_some())
 }
 
 // Whether the list owes exactly the set, in as many ranges as the set has runs.
@@ -39,11 +40,11 @@ pub(crate) fn owes(list: &LayerInitTracker, set: u64) -> bool {
 }
 
 // A query of the list: what it has to have filled, and what a drain of it leaves.
-pub(crate) fn try_query(list: &LayerInitTracker, set: u64, from: u64, to: u64, tally: &mut Tally) {
-    tally.agree(same(answer(list, from, to), checked(set, from, to)));
+pub(crate) fn try_query(list: &LayerInitTracker, set: u64, query: Span<u64>, tally: &mut Tally) {
+    tally.agree(answer(list, query) == checked(set, query));
     let mut after = *list;
-    after.drain(low(from), low(to));
-    tally.agree(owes(&after, set & !between(from, to)));
+    after.drain(layers_of(query));
+    tally.agree(owes(&after, set & !between(query)));
 }
 
 // An index put back: it is in the list then, unless it is none of the list's layers.

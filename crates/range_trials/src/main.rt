@@ -7,6 +7,7 @@ mod sets;
 mod tally;
 
 use init_tracker::{BufferInitTracker, LayerInitTracker};
+use range_list::Span;
 use sets::{POSITIONS, only};
 use std::io;
 use std::io::Write;
@@ -16,9 +17,13 @@ use tally::Tally;
 fn try_queries(book: &BufferInitTracker, list: &LayerInitTracker, set: u64, tally: &mut Tally) {
     for from in 0..POSITIONS {
         for to in 0..POSITIONS {
+            let query = Span {
+                start: from,
+                end: to,
+            };
             tally.query();
-            buffers::try_query(book, set, from, to, tally);
-            layers::try_query(list, set, from, to, tally);
+            buffers::try_query(book, set, query, tally);
+            layers::try_query(list, set, query, tally);
         }
     }
 }
@@ -34,10 +39,7 @@ fn try_discards(list: &LayerInitTracker, size: u64, set: u64, tally: &mut Tally)
 // The set's list, made by draining what is outside the set, and all that is asked of it.
 fn try_set(size: u64, set: u64, tally: &mut Tally) {
     tally.list();
-    let Some(book) = buffers::made(size, set) else {
-        return tally.agree(false);
-    };
-    let Some(list) = layers::made(size, set) else {
+    let (Ok(book), Some(list)) = (buffers::made(size, set), layers::made(size, set)) else {
         return tally.agree(false);
     };
     tally.agree(buffers::owes(&book, set));
@@ -55,7 +57,7 @@ fn try_size(size: u64, tally: &mut Tally) {
 
 // Prints how many were tried, and how many differences there are.
 fn main(rt: HostRuntime) -> io::Result<()> {
-    let mut tally = Tally::new();
+    let mut tally = Tally::default();
     for size in 0..7 {
         try_size(size, &mut tally);
     }

@@ -1,6 +1,6 @@
 // What was tried, counted.
 
-#[derive(Clone, Copy)]
+#[derive(Clone, Copy, Debug, Default)]
 pub struct Tally {
     pub lists: u64,
     pub queries: u64,
@@ -9,16 +9,6 @@ pub struct Tally {
 }
 
 impl Tally {
-    // Nothing tried.
-    pub(crate) fn new() -> Tally {
-        Tally {
-            lists: 0,
-            queries: 0,
-            discards: 0,
-            differences: 0,
-        }
-    }
-
     // A list more.
     pub(crate) fn list(&mut self) {
         self.lists = self.lists.wrapping_add(1);
@@ -36,8 +26,6 @@ impl Tally {
 
     // A difference more, unless the two sides agree.
     pub(crate) fn agree(&mut self, same: bool) {
-        if !same {
-            self.differences = self.differences.wrapping_add(1);
-        }
+        self.differences = self.differences.wrapping_add(u64::from(!same));
     }
 }
