@@ -1,5 +1,5 @@
 -- A small run by the rules: a buffer of 6 bytes, 0..4 written with 9, 0..6 read, submitted, and submitted again.
-use Rattle.std.specs.Prelude.{◌≡◌, ℕ, ◌-◌, List, [], ◌∷◌, length}
+use Rattle.std.specs.Prelude.{◌≡◌, ℕ, ◌-◌, List, [], ◌∷◌, length, Ok, Err}
 use Rattle.fault.specs.declared.call_kind.CallKind.TheVariants.{Submit as Submitting}
 use Rattle.fault.specs.declared.refusal.Refusal.TheVariants.{WrongState}
 use Rattle.fault.specs.Parts.{fault_of}
@@ -7,9 +7,8 @@ use Rattle.device.specs.declared.command.Command.{Command}
 use Rattle.device.specs.declared.command.CommandKind.TheVariants.{Clear, Fill}
 use Rattle.device.specs.Meaning.{Meaning, ran}
 use Rattle.rules.specs.State.{State, new_state}
-use Rattle.rules.specs.Calls.{Outcome, outcome}
-use Rattle.rules.specs.declared.answer.Answer.{Answer}
-use Rattle.rules.specs.declared.answer.Answer.TheVariants.{Made, Done, Submitted, Declined}
+use Rattle.rules.specs.Calls.{Answer, Outcome, outcome}
+use Rattle.rules.specs.declared.answer.Accepted.TheVariants.{Made, Done, Submitted}
 use Rattle.rules.specs.declared.call.Call.{Call}
 use Rattle.rules.specs.declared.call.Call.TheVariants.{MakeBuffer, Open, BufferWrite, BufferRead, Close, Submit}
 use Rattle.rules.specs.declared.report.Report.{Report}
@@ -48,7 +47,7 @@ sample_outcomes =
 
 -- what is answered, commanded and summed
 pub record SampleRuns : Type 0 where
-  pub answered : answers sample_outcomes ≡ Made 0 ∷ Done ∷ Done ∷ Done ∷ Done ∷ Submitted ∷ Declined (fault_of Submitting WrongState 255 64) ∷ []
+  pub answered : answers sample_outcomes ≡ Ok (Made 0) ∷ Ok Done ∷ Ok Done ∷ Ok Done ∷ Ok Done ∷ Ok Submitted ∷ Err (fault_of Submitting WrongState 255 64) ∷ []
   pub commanded : all_commanded sample_outcomes ≡ [] ∷ [] ∷ [] ∷ [] ∷ []
       ∷ (record { kind = Clear; slot = 0; first = 4; count = 4 } ∷ record { kind = Fill 9; slot = 0; first = 0; count = 4 } ∷ [])
       ∷ [] ∷ []

@@ -1,13 +1,15 @@
 // What a call answers.
 use fault::Fault;
 
-#[derive(Clone, Copy)]
-pub enum Answer {
+#[derive(Clone, Copy, Debug, PartialEq, Eq)]
+pub enum Accepted {
     // A resource of this number was made.
     Made(u8),
-    // Accepted, with nothing more to say.
+    // Nothing more is to be said.
     Done,
     // A list was submitted; the report says what it took.
     Submitted,
-    Declined(Fault),
 }
+
+// Accepted, or declined with a fault.
+pub type Answer = Result<Accepted, Fault>;

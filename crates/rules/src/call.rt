@@ -1,6 +1,6 @@
 // The calls of a planner, with their arguments as they come.
 
-#[derive(Clone, Copy)]
+#[derive(Clone, Copy, Debug, PartialEq, Eq)]
 pub enum Call {
     MakeBuffer {
         size: u64,

@@ -9,7 +9,7 @@ mod piece;
 mod report;
 mod step;
 
-pub use answer::Answer;
+pub use answer::{Accepted, Answer};
 pub use call::Call;
 pub use laws::{clears_as_webgpu, sample_stands};
 pub use list_state::{ListCall, ListState};

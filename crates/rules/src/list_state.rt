@@ -1,6 +1,6 @@
 // The five states of a list, and the calls that they decide on.
 
-#[derive(Clone, Copy)]
+#[derive(Clone, Copy, Debug, PartialEq, Eq)]
 pub enum ListState {
     Idle,
     Recording,
@@ -9,7 +9,7 @@ pub enum ListState {
     Broken,
 }
 
-#[derive(Clone, Copy)]
+#[derive(Clone, Copy, Debug, PartialEq, Eq)]
 pub enum ListCall {
     Open,
     Close,

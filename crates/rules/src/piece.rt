@@ -1,10 +1,10 @@
 // A range of one buffer's cells that a read took out of its book, and that has to be cleared.
-ghost use Rattle.std.specs.Prelude.{◌≡◌};
+ghost use Rattle.std.specs.Prelude.{◌≡◌, ◌-◌};
 ghost use Rattle.rules.specs.Planning.{precedes, touches, clear_of};
 
 use device::{Command, CommandKind};
 
-#[derive(Clone, Copy)]
+#[derive(Clone, Copy, Debug, Default, PartialEq, Eq)]
 pub struct Piece {
     pub buffer: u8,
     pub start: u64,
@@ -12,11 +12,18 @@ pub struct Piece {
 }
 
 impl Piece {
+    // How many cells it holds.
+    pub fn count(self) -> u64
+        ensures { result ≡ self.end - self.start }
+    {
+        self.end.saturating_sub(self.start)
+    }
+
     // Whether it stands before another, by buffer and address.
     pub fn precedes(self, other: Piece) -> bool
         ensures { result ≡ precedes self other }
     {
-        self.buffer < other.buffer || (self.buffer == other.buffer && self.start < other.start)
+        (self.buffer, self.start) < (other.buffer, other.start)
     }
 
     // Whether another of the same buffer begins where it ends.
@@ -34,7 +41,7 @@ impl Piece {
             kind: CommandKind::Clear,
             slot: self.buffer,
             first: self.start,
-            count: self.end.saturating_sub(self.start),
+            count: self.count(),
         }
     }
 }

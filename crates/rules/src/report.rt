@@ -2,7 +2,7 @@
 ghost use Rattle.std.specs.Prelude.{◌≡◌, length};
 ghost use Rattle.rules.specs.Reports.{blank_report, begun};
 
-#[derive(Clone, Copy)]
+#[derive(Clone, Copy, Debug, PartialEq, Eq)]
 pub struct Report {
     // How many cells were cleared for reads.
     pub cleared: u64,
@@ -10,6 +10,7 @@ pub struct Report {
     pub commands: u64,
     // How many sums there are: one for each read, in order.
     pub reads: u64,
+    // Arrays and a count: the caller hands them in, and places that no read fills stay as they were.
     // The sums; those past `reads` are as they were.
     pub sums: [u64; 64],
     // How many commands of the submission went before each sum; those past `reads` are as they were.
@@ -42,7 +43,7 @@ impl Report {
 }
 
 // The memory that a call fills.
-#[derive(Clone, Copy)]
+#[derive(Clone, Copy, Debug, PartialEq, Eq)]
 pub struct Records {
     pub report: Report,
 }

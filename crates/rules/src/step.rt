@@ -1,11 +1,11 @@
 // What a list records: uses of buffers, each kept whole.
-ghost use Rattle.std.specs.Prelude.{◌≡◌, ◌≤◌};
+ghost use Rattle.std.specs.Prelude.{◌≡◌, ◌-◌, ◌≤◌};
 ghost use Rattle.std.specs.Option.{option_to_list};
 ghost use Rattle.rules.specs.Uses.{buffer_of, start_of, end_of, cover_end, looks, commands_of};
 
 use device::{Command, CommandKind};
 
-#[derive(Clone, Copy)]
+#[derive(Clone, Copy, Debug, PartialEq, Eq)]
 pub enum Step {
     BufferRead {
         buffer: u8,
@@ -31,9 +31,9 @@ impl Step {
         ensures { result ≡ buffer_of self }
     {
         match self {
-            Step::BufferRead { buffer, .. } => buffer,
-            Step::BufferWrite { buffer, .. } => buffer,
-            Step::ClearBuffer { buffer, .. } => buffer,
+            Step::BufferRead { buffer, .. }
+            | Step::BufferWrite { buffer, .. }
+            | Step::ClearBuffer { buffer, .. } => buffer,
         }
     }
 
@@ -42,9 +42,9 @@ impl Step {
         ensures { result ≡ start_of self }
     {
         match self {
-            Step::BufferRead { start, .. } => start,
-            Step::BufferWrite { start, .. } => start,
-            Step::ClearBuffer { start, .. } => start,
+            Step::BufferRead { start, .. }
+            | Step::ClearBuffer { start, .. }
+            | Step::BufferWrite { start, .. } => start,
         }
     }
 
@@ -53,10 +53,17 @@ impl Step {
         ensures { result ≡ end_of self }
     {
         match self {
-            Step::BufferRead { end, .. } => end,
-            Step::BufferWrite { end, .. } => end,
-            Step::ClearBuffer { end, .. } => end,
+            Step::BufferWrite { end, .. }
+            | Step::ClearBuffer { end, .. }
+            | Step::BufferRead { end, .. } => end,
         }
+    }
+
+    // How many bytes its own range holds.
+    pub fn count(self) -> u64
+        ensures { result ≡ end_of self - start_of self }
+    {
+        self.end().saturating_sub(self.start())
     }
 
     // Where what it covers ends: a read covers up to the next multiple of 4.
@@ -65,9 +72,8 @@ impl Step {
         ensures { result ≡ cover_end self }
     {
         match self {
-            Step::BufferRead { end, .. } => (end + 3) / 4 * 4,
-            Step::BufferWrite { end, .. } => end,
-            Step::ClearBuffer { end, .. } => end,
+            Step::BufferRead { end, .. } => end.next_multiple_of(4),
+            Step::BufferWrite { end, .. } | Step::ClearBuffer { end, .. } => end,
         }
     }
 
@@ -75,10 +81,7 @@ impl Step {
     pub fn looks(self) -> bool
         ensures { result ≡ looks self }
     {
-        match self {
-            Step::BufferRead { .. } => true,
-            Step::BufferWrite { .. } | Step::ClearBuffer { .. } => false,
-        }
+        matches!(self, Step::BufferRead { .. })
     }
 
     // What the device is asked to do for it, if anything.
@@ -90,12 +93,11 @@ impl Step {
             Step::BufferWrite { byte, .. } => CommandKind::Fill(byte),
             Step::ClearBuffer { .. } => CommandKind::Clear,
         };
-        let first = self.start();
         Some(Command {
             kind,
             slot: self.buffer(),
-            first,
-            count: self.end().saturating_sub(first),
+            first: self.start(),
+            count: self.count(),
         })
     }
 }
