@@ -4,6 +4,7 @@
 pub enum Call {
     MakeBuffer {
         size: u64,
+        // A number, not a flag: the rules decline one that is neither 0 nor 1.
         copy: u8,
     },
     Destroy {

@@ -2,6 +2,7 @@
 ghost use Rattle.std.specs.Prelude.{◌≡◌, ◌-◌, ◌≤◌};
 ghost use Rattle.std.specs.Option.{option_to_list};
 ghost use Rattle.rules.specs.Uses.{buffer_of, start_of, end_of, cover_end, looks, commands_of};
+ghost use Rattle.rules.specs.declared.step.Step.TheVariants.{BufferRead};
 
 use device::{Command, CommandKind};
 
@@ -99,5 +100,18 @@ impl Step {
             first: self.start(),
             count: self.count(),
         })
+    }
+}
+
+// What a place holds that holds no step.
+impl Default for Step {
+    ghost is_default = { λ step. step ≡ BufferRead 0 0 0 };
+
+    fn default() -> Step {
+        Step::BufferRead {
+            buffer: 0,
+            start: 0,
+            end: 0,
+        }
     }
 }
