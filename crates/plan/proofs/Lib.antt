@@ -1,6 +1,6 @@
+pub mod Lists
+pub mod Small
 pub mod Order
-pub mod Joining
 pub mod Runs
 pub mod Books
-pub mod Tests
 pub mod Whole

@@ -1,5 +1,5 @@
 -- Commands after commands on a device, and one step more of a list.
-use Rattle.std.proofs.Common.{◌≡◌, ℕ, suc, ◌+◌, ◌-◌, ◌<◌, ◌≤◌, true, ◌||◌, eqb, leb, List, [], ◌∷◌, ◌++◌, length, get_or, drop, set, sym, refl, ap, ◌∙◌, append_assoc, arith, length-append}
+use Rattle.std.proofs.Common.{◌≡◌, ℕ, suc, ◌+◌, ◌-◌, ◌<◌, ◌≤◌, true, List, [], ◌∷◌, ◌++◌, length, get_or, drop, set, sym, refl, ap, ◌∙◌, append_assoc, arith, length-append}
 use Rattle.std.proofs.lemmas.List.{append-nil, at_drop_more, length_push}
 use Rattle.std.proofs.lemmas.Bool.{and_parts}
 use Rattle.device.specs.Commands.{fits_in}
@@ -9,7 +9,7 @@ use Rattle.device.proofs.Cells.{ran_append, ran_append_at, ran_same}
 use Rattle.device.proofs.Sums.{summed_same}
 use Rattle.rules.specs.Planning.{clear_of, clears_of}
 use Rattle.rules.specs.Submission.{all_fit, step_fits, steps_fit, over}
-use Rattle.rules.specs.Uses.{commands_of, step_commands, sums_of, step_sums, commands_before, start_of, end_of, buffer_of}
+use Rattle.rules.specs.Uses.{commands_of, step_commands, sums_of, step_sums, commands_before}
 use Rattle.rules.specs.declared.piece.Piece.{Piece}
 use Rattle.rules.specs.declared.report.Report.{Report}
 use Rattle.rules.specs.declared.step.Step.{Step}
@@ -24,13 +24,6 @@ followed_then m n o xs ys p q =
       extents = λ s. q.extents s ∙ p.extents s;
       spent = omega (arith, length-append xs ys, p.spent, q.spent);
     }
-
--- where extents agree, the same fits
-pub fits_same : (e f : ℕ → ℕ) (c : Command) → ((s : ℕ) → f s ≡ e s) → fits_in e c ≡ true → fits_in f c ≡ true
-fits_same e f c h t = ap (λ n. eqb c.count 0 || leb (c.first + c.count) n) (h c.slot) ∙ t
-
-pub step_fits_same : (e f : ℕ → ℕ) (s : Step) → ((n : ℕ) → f n ≡ e n) → step_fits e s ≡ true → step_fits f s ≡ true
-step_fits_same e f s h t = ap (λ n. leb (start_of s + (end_of s - start_of s)) n) (h (buffer_of s)) ∙ t
 
 -- the first of those that fit, and the others
 pub fit_here : (e : ℕ → ℕ) (ps : List Piece) (i : ℕ) (d : Piece) → i < length ps → all_fit e (clears_of (drop i ps)) ≡ true

@@ -1,5 +1,5 @@
 -- One submission as a whole: what its checks come to, and what its commands leave.
-use Rattle.std.proofs.Common.{◌≡◌, ℕ, ◌+◌, ◌-◌, ◌*◌, ◌≤◌, Bool, true, false, cond, ◌&&◌, leb, List, [], ◌∷◌, ◌++◌, length, is_ok, Ok, Err, Result, sym, refl, ap, ◌∙◌, arith, length-append, length-take}
+use Rattle.std.proofs.Common.{◌≡◌, ℕ, ◌+◌, ◌-◌, ◌*◌, ◌≤◌, Bool, true, false, cond, ◌&&◌, leb, List, [], ◌∷◌, ◌++◌, length, Ok, Err, Result, sym, refl, ap, ◌∙◌, arith, length-append}
 use Rattle.std.proofs.lemmas.List.{length-map}
 use Rattle.std.proofs.lemmas.Bool.{and_parts}
 use Rattle.std.proofs.lemmas.Bool.Decides.{nat_tests}
@@ -12,22 +12,15 @@ use Rattle.device.specs.Meaning.{Meaning, ran, most_cells}
 use Rattle.device.proofs.Cells.{ran_same}
 use Rattle.rules.specs.Planning.{clear_of, clears_of, cells_in, planned}
 use Rattle.rules.specs.State.{Buffer}
-use Rattle.rules.specs.Submission.{all_stand, all_hold, all_fit, steps_fit, step_fits, all_commands, reported, steps_verdict}
+use Rattle.rules.specs.Submission.{all_fit, steps_fit, all_commands, reported}
 use Rattle.rules.specs.Uses.{commands_before, commands_of, step_commands, step_sums, sums_of}
 use Rattle.rules.specs.Verdicts.{and_then}
 use Rattle.rules.specs.declared.piece.Piece.{Piece}
 use Rattle.rules.specs.Reports.{begun}
 use Rattle.rules.specs.declared.report.Report.{Report}
 use Rattle.rules.specs.declared.step.Step.{Step}
-use Rattle.plan.specs.Kept.{kept}
 use Rattle.plan.specs.Notes.{filled}
-use Rattle.plan.specs.declared.pieces.Pieces.{Pieces}
-use Rattle.plan.proofs.Books.{never}
-use Rattle.plan.proofs.Runs.{sums_same, step_fits_same}
-
--- there are never more pieces than places
-pub kept_few : (p : Pieces) → length (kept p) ≤ 4096
-kept_few p = omega (arith, length-take p.len p.places, p.fits)
+use Rattle.plan.proofs.Runs.{sums_same}
 
 -- what the device is asked before the first command
 abbrev pub asked : Meaning → List Piece → List Step → ℕ → Result (Unit {0}) Fault
@@ -35,23 +28,12 @@ asked m ps ss needed =
     and_then (cond (leb needed m.allowance) (Ok tt) (Err (fault_of Submitting AllowanceShort 255 64)))
     (cond (all_fit m.extent (clears_of ps) && steps_fit m.extent ss) (Ok tt) (Err (fault_of Submitting BadDescription 255 64)))
 
-pub asked_is : (m : Meaning) (V : List Buffer) (ss : List Step) (ps : List Piece) (needed : ℕ) → Ok tt ≡ all_stand V 0 ss → Ok tt ≡ all_hold V 0 ss
-    → ps ≡ planned V ss → needed ≡ length ps + length (step_commands ss) → steps_verdict m V ss ≡ asked m ps ss needed
-asked_is m V ss ps needed stand hold is n =
-    let l : length (all_commands V ss) ≡ needed =
-    length-append (clears_of (planned V ss)) (step_commands ss)
-    ∙ ap (λ k. k + length (step_commands ss)) (length-map (planned V ss) clear_of ∙ ap length (sym is)) ∙ sym n in
-    ap (λ v. and_then v (and_then (all_hold V 0 ss) (asked m (planned V ss) ss (length (all_commands V ss))))) (sym stand)
-    ∙ ap (λ v. and_then v (asked m (planned V ss) ss (length (all_commands V ss)))) (sym hold)
-    ∙ ap (asked m (planned V ss) ss) l
-    ∙ ap (λ qs. asked m qs ss needed) (sym is)
-
 -- where it is granted, the allowance is enough and all fits
 granted_both : (a b c : Bool) (e f : Fault) → Ok tt ≡ and_then (cond a (Ok tt) (Err e)) (cond (b && c) (Ok tt) (Err f)) → (a ≡ true) × (b ≡ true) × (c ≡ true)
 granted_both true true true e f h = (refl, refl, refl)
-granted_both true true false e f h = absurd (never (ap is_ok h))
-granted_both true false c e f h = absurd (never (ap is_ok h))
-granted_both false b c e f h = absurd (never (ap is_ok h))
+granted_both true true false e f h = cc
+granted_both true false c e f h = cc
+granted_both false b c e f h = cc
 
 pub granted : (m : Meaning) (ps : List Piece) (ss : List Step) (needed : ℕ) → Ok tt ≡ asked m ps ss needed
     → (leb needed m.allowance ≡ true) × (all_fit m.extent (clears_of ps) ≡ true) × (steps_fit m.extent ss ≡ true)
@@ -67,13 +49,6 @@ cells_bound e [] h t = omega arith
 cells_bound e (p ∷ ps) h t =
     let b = and_parts (fits_in e (clear_of p)) (all_fit e (clears_of ps)) t in
     omega (arith, fit_cells e p h b.0, cells_bound e ps h b.1)
-
--- where extents agree, the same steps fit
-pub steps_fit_same : (e f : ℕ → ℕ) (ss : List Step) → ((n : ℕ) → f n ≡ e n) → steps_fit e ss ≡ true → steps_fit f ss ≡ true
-steps_fit_same e f [] h t = refl
-steps_fit_same e f (s ∷ ss) h t =
-    let b = and_parts (step_fits e s) (steps_fit e ss) t in
-    ap (λ v. v && steps_fit f ss) (step_fits_same e f s h b.0) ∙ steps_fit_same e f ss h b.1
 
 -- reads over equal cells sum to the same
 pub step_sums_same : (f g : ℕ → ℕ → ℕ) (ss : List Step) → ((s i : ℕ) → f s i ≡ g s i) → step_sums f ss ≡ step_sums g ss

@@ -1,11 +1,11 @@
 -- The pieces that a store of pieces holds.
-use Rattle.std.specs.Prelude.{List, take}
+use Rattle.std.specs.Prelude.{List}
 use Rattle.rules.specs.declared.piece.Piece.{Piece}
 use Rattle.plan.specs.declared.pieces.Pieces.{Pieces}
 
--- those in its first places, in order
+-- all of them, in order
 abbrev pub kept : Pieces → List Piece
-kept p = take p.len p.places
+kept p = p.pieces.items
 
 -- what a place holds that holds no piece
 abbrev pub blank : Piece

@@ -13,6 +13,7 @@ pub struct Buffer {
     // Whether a command may clear it.
     pub copy: bool,
     // False before it is made and after it is destroyed.
+    // A flag, and no Option of the rest: the rules keep the size and the book of a destroyed buffer.
     pub standing: bool,
     ghost small: { size ≤ 268435456 },
 }

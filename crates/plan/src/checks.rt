@@ -7,7 +7,7 @@ ghost use Rattle.rules.specs.Submission.{all_stand, all_fit, step_fits, steps_fi
 ghost use Rattle.rules.specs.Uses.{step_commands};
 ghost use Rattle.plan.specs.Views.{view_buffers};
 
-use crate::Buffer;
+use crate::{Buffer, Steps};
 use device::Device;
 use fault::{CallKind, Fault, Refusal};
 use rules::{Piece, Step};
@@ -16,27 +16,20 @@ use rules::{Piece, Step};
 fn is_standing(buffers: &[Buffer; 16], number: u8) -> bool
     ensures { result ≡ (slice_index_or (view_buffers buffers.now) number no_buffer).standing }
 {
-    let n = number as usize;
-    if n >= 16 {
-        return false;
-    }
-    let buffer = buffers[n];
-    buffer.standing
+    buffers
+        .get(usize::from(number))
+        .is_some_and(|buffer| buffer.standing)
 }
 
 // Declines for the first step whose buffer does not stand.
-pub(crate) fn all_stand(buffers: &[Buffer; 16], steps: &[Step]) -> Result<(), Fault>
-    requires { length steps.now ≤ 64 }
+pub(crate) fn all_stand(buffers: &[Buffer; 16], steps: &Steps) -> Result<(), Fault>
     ensures { result ≡ all_stand (view_buffers buffers.now) 0 steps.now }
 {
-    let mut k = 0;
-    while k < steps.len() {
-        let step = steps[k];
+    for (place, step) in steps.as_slice().iter().enumerate() {
         let number = step.buffer();
         if !is_standing(buffers, number) {
-            return Err(Fault::new(CallKind::Submit, Refusal::Destroyed, number, k as u8));
+            return Err(Fault::new(CallKind::Submit, Refusal::Destroyed, number, place as u8));
         }
-        k += 1;
     }
     Ok(())
 }
@@ -45,23 +38,14 @@ pub(crate) fn all_stand(buffers: &[Buffer; 16], steps: &[Step]) -> Result<(), Fa
 fn piece_fits<D: Device>(device: &D, p: Piece) -> bool
     ensures { result ≡ fits_in (D.Device.meaning device.now).extent (clear_of p) }
 {
-    let c = p.clear();
-    c.fits(device.extent(p.buffer))
+    p.clear().fits(device.extent(p.buffer))
 }
 
 // Whether each of these clears stays within its slot.
 pub(crate) fn all_fit<D: Device>(device: &D, pieces: &[Piece]) -> bool
     ensures { result ≡ all_fit (D.Device.meaning device.now).extent (clears_of pieces.now) }
 {
-    let mut i = 0;
-    while i < pieces.len() {
-        let p = pieces[i];
-        if !piece_fits(device, p) {
-            return false;
-        }
-        i += 1;
-    }
-    true
+    pieces.iter().all(|piece| piece_fits(device, *piece))
 }
 
 // Whether a step's own range stays within its slot.
@@ -69,38 +53,23 @@ fn step_fits<D: Device>(device: &D, step: Step) -> bool
     ensures { result ≡ step_fits (D.Device.meaning device.now).extent step }
 {
     let first = step.start();
-    let count = step.end().saturating_sub(first);
     let extent = device.extent(step.buffer());
-    first <= extent && count <= extent - first
+    first <= extent && step.count() <= extent - first
 }
 
 // Whether each step's own range stays within its slot.
-pub(crate) fn steps_fit<D: Device>(device: &D, steps: &[Step]) -> bool
+pub(crate) fn steps_fit<D: Device>(device: &D, steps: &Steps) -> bool
     ensures { result ≡ steps_fit (D.Device.meaning device.now).extent steps.now }
 {
-    let mut k = 0;
-    while k < steps.len() {
-        let step = steps[k];
-        if !step_fits(device, step) {
-            return false;
-        }
-        k += 1;
-    }
-    true
+    steps.as_slice().iter().all(|step| step_fits(device, *step))
 }
 
-// How many commands the steps themselves need.
-pub(crate) fn count_commands(steps: &[Step]) -> u64
-    requires { length steps.now ≤ 64 }
-    ensures { result ≡ length (step_commands steps.now) }
+// How many commands the steps themselves need: one for each but a read.
+pub(crate) fn count_commands(steps: &Steps) -> u64
+    ensures answer { result ≡ length (step_commands steps.now) }
+    ensures few { result ≤ 64 }
 {
-    let mut count = 0;
-    for step in steps {
-        if step.command().is_some() {
-            count += 1;
-        }
-    }
-    count
+    steps.as_slice().iter().filter(|step| !step.looks()).count() as u64
 }
 
 // How many cells these ranges hold.
@@ -108,9 +77,5 @@ pub(crate) fn sum_cells(pieces: &[Piece]) -> u64
     requires { cells_in pieces.now < 2 ^ 64 }
     ensures { result ≡ cells_in pieces.now }
 {
-    let mut cells = 0;
-    for p in pieces {
-        cells += p.end.saturating_sub(p.start);
-    }
-    cells
+    pieces.iter().map(|piece| piece.count()).sum()
 }

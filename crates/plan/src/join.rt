@@ -13,19 +13,20 @@ fn join_one(pieces: &mut [Piece], i: usize, w: usize) -> usize
     ensures joined { drop result pieces.new ≡ join_front (slice_index_or pieces.old i blank) (drop w pieces.old) }
 {
     let p = pieces[i];
-    if w < pieces.len() {
-        let q = pieces[w];
-        if p.touches(q) {
+    match pieces.get(w) {
+        Some(q) if p.touches(*q) => {
             pieces[w] = Piece {
                 buffer: p.buffer,
                 start: p.start,
                 end: q.end,
             };
-            return w;
+            w
+        }
+        _ => {
+            pieces[w - 1] = p;
+            w - 1
         }
     }
-    pieces[w - 1] = p;
-    w - 1
 }
 
 // Joins what touches, from the back; the joined pieces then stand from the answered place on.
@@ -34,6 +35,7 @@ pub(crate) fn join_touching(pieces: &mut [Piece]) -> usize
     ensures joined { drop result pieces.new ≡ join_all pieces.old }
 {
     let mut w = pieces.len();
+    // By index, in place: the memory is fixed, and a second store would be as large again.
     for i in (0..pieces.len()).rev() {
         w = join_one(pieces, i, w);
     }

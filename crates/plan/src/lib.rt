@@ -7,6 +7,7 @@ mod join;
 mod pieces;
 mod planning;
 mod run;
+mod steps;
 mod submit;
 
 pub use buffer::{Buffer, MOST_BYTES};
@@ -15,4 +16,5 @@ use join::join_touching;
 use pieces::Pieces;
 use planning::plan_steps;
 use run::{run_clears, run_steps};
+pub use steps::{MOST_STEPS, Steps};
 pub use submit::submit_steps;

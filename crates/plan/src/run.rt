@@ -7,6 +7,7 @@ ghost use Rattle.rules.specs.Submission.{all_fit, step_fits, steps_fit};
 ghost use Rattle.rules.specs.Uses.{commands_of, step_commands, sums_of, step_sums, commands_before};
 ghost use Rattle.plan.specs.Notes.{noted, noted_step, filled};
 
+use crate::Steps;
 use device::{Command, Device};
 use rules::{Piece, Report, Step};
 
@@ -27,11 +28,8 @@ pub(crate) fn run_clears<D: Device>(device: &mut D, pieces: &[Piece])
     ensures followed { Followed (D.Device.meaning device.old) (clears_of pieces.now) (D.Device.meaning device.new) }
     ensures kept { D.Device.keeps device.old (clears_of pieces.now) device.new }
 {
-    let mut i = 0;
-    while i < pieces.len() {
-        let p = pieces[i];
-        command(device, p.clear());
-        i += 1;
+    for piece in pieces {
+        command(device, piece.clear());
     }
 }
 
@@ -40,6 +38,7 @@ fn note_sum(report: &mut Report, sum: u64, done: u64)
     requires { report.old.reads < 64 }
     ensures { report.new ≡ noted report.old sum done }
 {
+    // By index: the report is arrays that the caller hands in.
     let place = report.reads as usize;
     report.sums[place] = sum;
     report.before[place] = done;
@@ -63,8 +62,7 @@ fn run_step<D: Device>(device: &mut D, step: Step, done: u64, report: &mut Repor
             done + 1
         }
         None => {
-            let first = step.start();
-            let sum = device.total(step.buffer(), first, step.end().saturating_sub(first));
+            let sum = device.total(step.buffer(), step.start(), step.count());
             note_sum(report, sum, done);
             done
         }
@@ -72,8 +70,8 @@ fn run_step<D: Device>(device: &mut D, step: Step, done: u64, report: &mut Repor
 }
 
 // Runs the steps after so many commands; the report gets the sum of each read.
-pub(crate) fn run_steps<D: Device>(device: &mut D, steps: &[Step], done: u64, report: &mut Report)
-    requires few { (length steps.now ≤ 64) × (done < 2 ^ 62) }
+pub(crate) fn run_steps<D: Device>(device: &mut D, steps: &Steps, done: u64, report: &mut Report)
+    requires few { done < 2 ^ 62 }
     requires none { report.old.reads ≡ 0 }
     requires wide { (length report.old.sums ≡ 64) × (length report.old.before ≡ 64) }
     requires left { length (step_commands steps.now) ≤ (D.Device.meaning device.old).allowance }
@@ -83,10 +81,7 @@ pub(crate) fn run_steps<D: Device>(device: &mut D, steps: &[Step], done: u64, re
     ensures report { report.new ≡ filled report.old (step_sums (D.Device.meaning device.old).cell steps.now) (commands_before done steps.now) }
 {
     let mut after = done;
-    let mut k = 0;
-    while k < steps.len() {
-        let step = steps[k];
-        after = run_step(device, step, after, report);
-        k += 1;
+    for step in steps.as_slice() {
+        after = run_step(device, *step, after, report);
     }
 }

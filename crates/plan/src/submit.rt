@@ -1,5 +1,5 @@
 // One submission: nothing is commanded before everything that could decline it is tried.
-ghost use Rattle.std.specs.Prelude.{◌≡◌, ◌≤◌, true, ◌&&◌, [], length, if◌then◌else◌, Ok, Err, nat_le};
+ghost use Rattle.std.specs.Prelude.{◌≡◌, ◌&&◌, [], if◌then◌else◌, Ok, Err, nat_le};
 ghost use Rattle.device.specs.Meaning.{Followed};
 ghost use Rattle.fault.specs.Parts.{fault_of};
 ghost use Rattle.fault.specs.declared.call_kind.CallKind.TheVariants.{Submit as Submitting};
@@ -7,53 +7,41 @@ ghost use Rattle.fault.specs.declared.refusal.Refusal.TheVariants.{AllowanceShor
 ghost use Rattle.rules.specs.Planning.{clears_of, drain_steps};
 ghost use Rattle.rules.specs.Submission.{all_commands, all_fit, reported, steps_fit, steps_verdict};
 ghost use Rattle.rules.specs.Verdicts.{accepts, and_then};
-ghost use Rattle.plan.specs.Views.{view_buffers, all_small};
+ghost use Rattle.plan.specs.Views.{view_buffers};
 
 use crate::{
-    Buffer, Pieces, all_fit, all_stand, count_commands, plan_steps, run_clears, run_steps,
+    Buffer, Pieces, Steps, all_fit, all_stand, count_commands, plan_steps, run_clears, run_steps,
     steps_fit, sum_cells,
 };
 use device::Device;
-use fault::{CallKind, Fault, NO_PLACE, NO_RESOURCE, Refusal};
-use rules::{Piece, Report, Step};
+use fault::{CallKind, Fault, Refusal};
+use rules::{Piece, Report};
 
 // Declines for want of allowance, or where a slot is too small.
 fn check_device<D: Device>(
     device: &D,
     clears: &[Piece],
-    steps: &[Step],
+    steps: &Steps,
     needed: u64,
 ) -> Result<(), Fault>
     ensures { result ≡ and_then (if nat_le needed (D.Device.meaning device.now).allowance then Ok tt else Err (fault_of Submitting AllowanceShort 255 64)) (if all_fit (D.Device.meaning device.now).extent (clears_of clears.now) && steps_fit (D.Device.meaning device.now).extent steps.now then Ok tt else Err (fault_of Submitting BadDescription 255 64)) }
 {
     if device.allowance() < needed {
-        return Err(Fault::new(
-            CallKind::Submit,
-            Refusal::AllowanceShort,
-            NO_RESOURCE,
-            NO_PLACE,
-        ));
+        return Err(Fault::of_call(CallKind::Submit, Refusal::AllowanceShort));
     }
-    if all_fit(device, clears) && steps_fit(device, steps) {
-        return Ok(());
+    if !(all_fit(device, clears) && steps_fit(device, steps)) {
+        return Err(Fault::of_call(CallKind::Submit, Refusal::BadDescription));
     }
-    Err(Fault::new(
-        CallKind::Submit,
-        Refusal::BadDescription,
-        NO_RESOURCE,
-        NO_PLACE,
-    ))
+    Ok(())
 }
 
 // Submits the steps of a list: all of its work, or none of it.
 pub fn submit_steps<D: Device>(
     device: &mut D,
     buffers: &mut [Buffer; 16],
-    steps: &[Step],
+    steps: &Steps,
     report: &mut Report,
 ) -> Result<(), Fault>
-    requires few { length steps.now ≤ 64 }
-    requires small { all_small steps.now ≡ true }
     ensures answer { result ≡ steps_verdict (D.Device.meaning device.old) (view_buffers buffers.old) steps.now }
     ensures after { view_buffers buffers.new ≡ (if accepts result then drain_steps (view_buffers buffers.old) steps.now else view_buffers buffers.old) }
     ensures device { Followed (D.Device.meaning device.old) (if accepts result then all_commands (view_buffers buffers.old) steps.now else []) (D.Device.meaning device.new) }
@@ -64,8 +52,7 @@ pub fn submit_steps<D: Device>(
     let mut drained = *buffers;
     let mut pieces = Pieces::new();
     plan_steps(&mut drained, steps, &mut pieces)?;
-    let first = pieces.join();
-    let clears = pieces.from(first);
+    let clears = pieces.joined();
     let ahead = clears.len() as u64;
     let needed = ahead + count_commands(steps);
     check_device(device, clears, steps, needed)?;

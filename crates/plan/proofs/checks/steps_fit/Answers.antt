@@ -1,23 +1,14 @@
-use Rattle.std.proofs.Common.{sym, refl, ap, ◌∙◌, arith}
-use Rattle.std.proofs.lemmas.List.{drop_all}
-use Rattle.rules.specs.Submission.{step_fits, steps_fit}
-use Rattle.rules.specs.declared.step.Step.TheVariants.{BufferRead}
-use Rattle.plan.proofs.Tests.{test_passes, test_fails}
+use Rattle.std.proofs.Common.{rules, ◌∙◌}
+use Rattle.std.proofs.lemmas.Iterator.{YieldsList-from_slice}
+use Rattle.std.proofs.lemmas.Iterator.Search.{all_from_yields_List}
+use borrow.Author.Tests.{tests}
+use Rattle.rules.specs.Submission.{step_fits}
+use Rattle.plan.proofs.Lists.{steps_fit_tests}
 use Rattle.plan.proofs.checks.steps_fit.Goals as goal
-
-pub loop-k-preserved : goal.loop-k-preserved
-loop-k-preserved g c =
-    let e = (g.D.Device.meaning c.args.device.now).extent in (
-      omega arith,
-      test_passes (step_fits e) (steps_fit e) (λ _ _. refl) c.args.steps.now c.loop-k.k (BufferRead 0 0 0) c.loop-k-test.true (sym c.if-not-step_fits.ensures) ∙ c.loop-k.invariant.1,
-    )
-
-pub returns-then-not-step_fits : goal.returns-then-not-step_fits
-returns-then-not-step_fits g c =
-    let e = (g.D.Device.meaning c.args.device.now).extent in
-    sym (sym c.loop-k.invariant.1 ∙ test_fails (step_fits e) (steps_fit e) (λ _ _. refl) c.args.steps.now c.loop-k.k (BufferRead 0 0 0) c.loop-k-test.true (sym c.if-not-step_fits.ensures))
 
 pub returns : goal.returns
 returns g c =
+    let ss = c.args.steps.now in
     let e = (g.D.Device.meaning c.args.device.now).extent in
-    sym (ap (steps_fit e) (drop_all c.loop-k.k c.args.steps.now (omega arith))) ∙ c.loop-k.invariant.1
+    all_from_yields_List (step_fits e) _ _ c.all.result c.all.ensures.ran (YieldsList-from_slice ss cc) (λ x b q k. search (rules, tests))
+    ∙ steps_fit_tests e ss

@@ -1,17 +1,16 @@
-use Rattle.std.proofs.Common.{ap, arith}
-use Rattle.std.proofs.lemmas.List.{at_drop_more, drop_all}
-use Rattle.rules.specs.Planning.{cells_in}
-use Rattle.plan.specs.Kept.{blank}
+use Rattle.std.proofs.Common.{◌-◌, rules, ◌∙◌, arith}
+use Rattle.std.proofs.lemmas.Iterator.{YieldsList-from_slice, YieldsList-from_map}
+use Rattle.std.proofs.lemmas.Iterator.Consumers.{sum_by_from_yields_List, fits_by_from_yields_list}
+use Rattle.plan.proofs.Lists.{cells_sum}
 use Rattle.plan.proofs.checks.sum_cells.Goals as goal
 
-pub overflow_add-cells : goal.overflow_add-cells
-overflow_add-cells c =
-    omega (arith, c.requires, c.loop-p.invariant, at_drop_more cells_in c.args.pieces.now c.loop-p.p-index blank (omega arith), c.saturating_sub-cells.ensures)
-
-pub loop-p-preserved : goal.loop-p-preserved
-loop-p-preserved c =
-    omega (arith, c.loop-p.invariant, at_drop_more cells_in c.args.pieces.now c.loop-p.p-index blank (omega arith), c.saturating_sub-cells.ensures)
+pub sum-requires-clause-fits : goal.sum-requires-clause-fits
+sum-requires-clause-fits c =
+    let ps = c.args.pieces.now in
+    fits_by_from_yields_list (λ p. p.end - p.start) ps c.map.result _ (YieldsList-from_map _ (λ p. p.end - p.start) (YieldsList-from_slice ps (cc)) c.map.ensures.closure (λ x r q k. search rules)) (omega (arith, cells_sum ps))
 
 pub returns : goal.returns
 returns c =
-    omega (arith, c.loop-p.invariant, ap cells_in (drop_all c.loop-p.p-index c.args.pieces.now (omega arith)))
+    let ps = c.args.pieces.now in
+    sum_by_from_yields_List (λ p. p.end - p.start) ps c.map.result c.sum.result c.sum.ensures.ran (YieldsList-from_map _ (λ p. p.end - p.start) (YieldsList-from_slice ps (cc)) c.map.ensures.closure (λ x r q k. search rules))
+    ∙ cells_sum ps

@@ -1,5 +1,5 @@
 use Rattle.std.proofs.Common.{ℕ, ◌+◌, List, map, length, get_or, drop, sym, ap, ◌∙◌, arith}
-use Rattle.std.proofs.lemmas.List.{at_drop_more, drop_all}
+use Rattle.std.proofs.lemmas.List.{at_drop_more}
 use Rattle.range_list.specs.View.{all_ends, ends}
 use Rattle.range_list.specs.declared.span.Span.{Span}
 use Rattle.rules.specs.Planning.{piece_of, all_placed}
@@ -12,25 +12,16 @@ use Rattle.plan.proofs.planning.keep_spans.Goals as goal
 left : ℕ → List Piece → List (Span ℕ) → List Piece
 left b qs xs = all_placed qs (map (piece_of b) (all_ends (λ x. x) xs))
 
-pub loop-s-preserved : goal.loop-s-preserved
+pub loop-span-preserved : goal.loop-span-preserved
 unfolding left
-loop-s-preserved c =
+loop-span-preserved c =
     let xs = c.args.spans.now in
-    let i = c.loop-s.s-index in
+    let i = c.loop-span.span-index in
     let d : Span ℕ = record { start = 0; end = 0 } in
-    let old = kept c.loop-s.pieces in
+    let old = kept c.loop-span.pieces in
     let s = get_or xs i d in
     let e = c.insert.ensures in
     let n = ap length e ∙ length_placed (piece_of c.args.buffer (ends (λ x. x) s)) old in (
       omega (arith, n),
-      ap (λ qs. left c.args.buffer qs (drop (i + 1) xs)) e ∙ sym (at_drop_more (left c.args.buffer old) xs i d (omega arith)) ∙ c.loop-s.invariant.1,
+      ap (λ qs. left c.args.buffer qs (drop (i + 1) xs)) e ∙ sym (at_drop_more (left c.args.buffer old) xs i d (omega arith)) ∙ c.loop-span.invariant.1,
     )
-
-pub returns : goal.returns
-returns c =
-    let xs = c.args.spans.now in
-    let i = c.loop-s.s-index in
-    record {
-      held = sym (ap (λ l. all_placed (kept c.loop-s.pieces) (map (piece_of c.args.buffer) (all_ends (λ x. x) l))) (drop_all i xs (omega arith))) ∙ c.loop-s.invariant.1;
-      count = omega arith;
-    }
