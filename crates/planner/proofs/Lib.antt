@@ -1,3 +1,4 @@
 pub mod Recorded
 pub mod Submitted
 pub mod Viewed
+pub mod Made

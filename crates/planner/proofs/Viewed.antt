@@ -1,16 +1,14 @@
 -- One list or one buffer of a planner, as the rules see it.
-use Rattle.std.proofs.Common.{◌≡◌, ℕ, ◌<◌, ◌≤◌, not, ltb, List, [], ◌∷◌, map, length, get_or, set, Ok, Err, sym, ap, ◌∙◌, arith}
-use Rattle.std.proofs.lemmas.List.{get_or-map, get_or_past, set_past, map-set, length-map}
-use Rattle.std.proofs.lemmas.Bool.{cond-true, cond-false, lt-ltb, le-ltb}
-use Rattle.fault.specs.declared.call_kind.CallKind.{CallKind}
-use Rattle.fault.specs.declared.refusal.Refusal.TheVariants.{Unknown, Destroyed}
-use Rattle.rules.specs.Lists.{allows, list_answer}
+use Rattle.std.proofs.Common.{◌≡◌, ℕ, ◌<◌, not, ltb, List, [], ◌∷◌, map, length, get_or, set, Ok, sym, ap, ◌∙◌, arith}
+use Rattle.std.proofs.lemmas.List.{get_or-map, map-set, length-map}
+use Rattle.std.proofs.lemmas.Bool.{cond-true, lt-ltb}
+use Rattle.fault.specs.declared.refusal.Refusal.TheVariants.{Destroyed}
+use Rattle.rules.specs.Lists.{allows}
 use Rattle.rules.specs.Making.{destroy_verdict}
 use Rattle.rules.specs.State.{State, Buffer as KnownBuffer, CommandList as Known, no_buffer, idle_list, buffer_at, list_at, with_buffers, with_lists, put_list}
-use Rattle.rules.specs.Verdicts.{Verdict, and_then, told, tried, known_buffer, known_list}
+use Rattle.rules.specs.Verdicts.{Verdict, and_then, tried, known_buffer, known_list}
 use Rattle.plan.specs.Views.{view_buffer, view_buffers}
 use Rattle.plan.specs.declared.buffer.Buffer.{Buffer}
-use Rattle.rules.specs.declared.list_state.ListCall.{ListCall}
 use Rattle.rules.specs.declared.list_state.ListCall.TheVariants.{Step as Record}
 use Rattle.planner.specs.Listed.{view_list}
 use Rattle.planner.specs.declared.list.CommandList.{CommandList}
@@ -23,48 +21,23 @@ module _ (st : State) (ls : List CommandList) (lists : st.lists ≡ map view_lis
   pub list_known : l < length ls → known_list st l ≡ Ok tt
   list_known lt = cond-true (ltb l (length st.lists)) _ _ (lt-ltb l (length st.lists) (omega (arith, long)))
 
-  pub list_unknown : length ls ≤ l → known_list st l ≡ Err Unknown
-  list_unknown le = cond-false (ltb l (length st.lists)) _ _ (le-ltb l (length st.lists) (omega (arith, long)))
-
   pub list_at_lem : (d : CommandList) → l < length ls → list_at st l ≡ view_list (get_or ls l d)
   list_at_lem d lt = ap (λ xs. get_or xs l idle_list) lists ∙ get_or-map view_list ls l d idle_list lt
-
-  pub list_past : length ls ≤ l → list_at st l ≡ idle_list
-  list_past le = get_or_past st.lists l idle_list (omega (arith, long))
 
   -- one list changed
   pub list_put : (p : CommandList) (q : Known) → view_list p ≡ q → with_lists st (map view_list (set ls l p)) ≡ put_list st l q
   list_put p q e = ap (with_lists st) (map-set view_list ls l p ∙ ap (λ xs. set xs l (view_list p)) (sym lists) ∙ ap (set st.lists l) e)
 
-  -- a number past the lists changes none
-  pub list_stays : (q : Known) → length ls ≤ l → st ≡ put_list st l q
-  list_stays q le = sym (ap (with_lists st) (set_past st.lists l q (omega (arith, long))))
-
-  -- what a known list's state decides
-  pub call_told : (k : CallKind) (c : ListCall) (d : CommandList) (v : Verdict) → l < length ls → v ≡ allows (view_list (get_or ls l d)).state c → told k 255 64 v ≡ list_answer k st c l
-  call_told k c d v lt e =
-      ap (told k 255 64) (e ∙ ap (λ p. allows p.state c) (sym (list_at_lem d lt)))
-      ∙ sym (ap (λ w. told k 255 64 (and_then w (allows (list_at st l).state c))) (list_known lt))
-
-  pub call_unknown : (k : CallKind) (c : ListCall) → length ls ≤ l → told k 255 64 (Err Unknown) ≡ list_answer k st c l
-  call_unknown k c le = sym (ap (λ w. told k 255 64 (and_then w (allows (list_at st l).state c))) (list_unknown le))
-
-  -- the verdict on a step of a known list, and of an unknown one
+  -- the verdict on a step of a known list
   pub step_verdict_lem : (b v : Verdict) (d : CommandList) → l < length ls
       → and_then b (and_then (allows (view_list (get_or ls l d)).state Record) v) ≡ and_then (known_list st l) (and_then b (and_then (allows (list_at st l).state Record) v))
   step_verdict_lem b v d lt =
       ap (λ p. and_then b (and_then (allows p.state Record) v)) (sym (list_at_lem d lt))
       ∙ sym (ap (λ w. and_then w (and_then b (and_then (allows (list_at st l).state Record) v))) (list_known lt))
 
-  pub step_unknown : (w : Verdict) → length ls ≤ l → Err Unknown ≡ and_then (known_list st l) w
-  step_unknown w le = sym (ap (λ u. and_then u w) (list_unknown le))
-
 module _ (st : State) (bs : List Buffer) (buffers : st.buffers ≡ view_buffers bs) (n : ℕ) where
   pub buffer_known : n < st.made → known_buffer st n ≡ Ok tt
   buffer_known lt = cond-true (ltb n st.made) _ _ (lt-ltb n st.made lt)
-
-  pub buffer_unknown : st.made ≤ n → known_buffer st n ≡ Err Unknown
-  buffer_unknown le = cond-false (ltb n st.made) _ _ (le-ltb n st.made le)
 
   pub buffer_at_lem : (d : Buffer) → n < length bs → buffer_at st n ≡ view_buffer (get_or bs n d)
   buffer_at_lem d lt = ap (λ xs. get_or xs n no_buffer) buffers ∙ get_or-map view_buffer bs n d no_buffer lt

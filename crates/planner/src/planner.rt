@@ -19,6 +19,8 @@ pub const LISTS: usize = 4;
 
 pub struct Planner<D: Device> {
     device: D,
+    // By number; `made` numbers are given out, and none comes back.
+    // An array and a count: the rules speak of all sixteen places, made or not.
     buffers: [Buffer; 16],
     made: usize,
     lists: [CommandList; 4],

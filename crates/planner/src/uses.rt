@@ -7,60 +7,52 @@ ghost use Rattle.rules.specs.Verdicts.{tried};
 ghost use Rattle.plan.specs.Views.{view_buffer};
 
 use fault::{ClearError, Refusal};
-use plan::Buffer;
+use plan::{Buffer, MOST_STEPS};
 
 // Whether a list with so many steps has no place for a use of this range; an empty one needs none.
 fn is_full(held: usize, start: u64, end: u64) -> bool
     ensures { result ≡ no_place held start end }
 {
-    start < end && held >= 64
+    start < end && held >= MOST_STEPS
+}
+
+// Declines for the first of these causes that holds.
+fn tried(causes: &[(bool, Refusal)]) -> Result<(), Refusal>
+    ensures { result ≡ tried causes.now }
+{
+    for (holds, refusal) in causes {
+        if *holds {
+            return Err(*refusal);
+        }
+    }
+    Ok(())
 }
 
 // The causes of a read, in their order.
 pub(crate) fn check_read(buffer: &Buffer, start: u64, end: u64, held: usize) -> Result<(), Refusal>
     ensures { result ≡ tried (read_causes start end (view_buffer buffer.now) held) }
 {
-    if !buffer.standing {
-        return Err(Refusal::Destroyed);
-    }
-    if start % 4 != 0 {
-        return Err(Refusal::UnalignedStart);
-    }
-    if end > buffer.size {
-        return Err(Refusal::PastBuffer);
-    }
-    if start > end {
-        return Err(Refusal::Backward);
-    }
-    if is_full(held, start, end) {
-        return Err(Refusal::ListFull);
-    }
-    Ok(())
+    tried(&[
+        (!buffer.standing, Refusal::Destroyed),
+        (start % 4 != 0, Refusal::UnalignedStart),
+        (end > buffer.size, Refusal::PastBuffer),
+        (start > end, Refusal::Backward),
+        (is_full(held, start, end), Refusal::ListFull),
+    ])
 }
 
 // The causes of a write, in their order.
 pub(crate) fn check_write(buffer: &Buffer, start: u64, end: u64, held: usize) -> Result<(), Refusal>
     ensures { result ≡ tried (write_causes start end (view_buffer buffer.now) held) }
 {
-    if !buffer.standing {
-        return Err(Refusal::Destroyed);
-    }
-    if start % 4 != 0 {
-        return Err(Refusal::UnalignedStart);
-    }
-    if end % 4 != 0 {
-        return Err(Refusal::UnalignedEnd);
-    }
-    if end > buffer.size {
-        return Err(Refusal::PastBuffer);
-    }
-    if start > end {
-        return Err(Refusal::Backward);
-    }
-    if is_full(held, start, end) {
-        return Err(Refusal::ListFull);
-    }
-    Ok(())
+    tried(&[
+        (!buffer.standing, Refusal::Destroyed),
+        (start % 4 != 0, Refusal::UnalignedStart),
+        (end % 4 != 0, Refusal::UnalignedEnd),
+        (end > buffer.size, Refusal::PastBuffer),
+        (start > end, Refusal::Backward),
+        (is_full(held, start, end), Refusal::ListFull),
+    ])
 }
 
 // Where a clear ends, or what it finds wrong, in the order of the causes.
@@ -73,10 +65,7 @@ fn clear_end(buffer: &Buffer, offset: u64, size: Option<u64>) -> Result<u64, Cle
     if offset % 4 != 0 {
         return Err(ClearError::UnalignedBufferOffset(offset));
     }
-    let count = match size {
-        Some(n) => n,
-        None => buffer.size.saturating_sub(offset),
-    };
+    let count = size.unwrap_or(buffer.size.saturating_sub(offset));
     if count % 4 != 0 {
         return Err(ClearError::UnalignedFillSize(count));
     }
@@ -106,13 +95,9 @@ pub(crate) fn check_clear(
     ensures cases { MatchResult result (λ end. (tried (clear_causes offset size (view_buffer buffer.now) held) ≡ Ok tt) × (end ≡ offset + clear_size size offset buffer.now.size)) (λ e. tried (clear_causes offset size (view_buffer buffer.now) held) ≡ Err e) }
     ensures webgpu { held < 64 → is_ok result ≡ not (webgpu_refuses (view_buffer buffer.now) offset size) }
 {
-    match clear_end(buffer, offset, size) {
-        Ok(end) => {
-            if is_full(held, offset, end) {
-                return Err(Refusal::ListFull);
-            }
-            Ok(end)
-        }
-        Err(error) => Err(error.into()),
+    let end = clear_end(buffer, offset, size)?;
+    if is_full(held, offset, end) {
+        return Err(Refusal::ListFull);
     }
+    Ok(end)
 }

@@ -1,17 +1,16 @@
 // How the state of a list decides on a call, and how a step joins a list.
-ghost use Rattle.std.specs.Prelude.{◌≡◌, ◌<◌, ◌≤◌, true, false, length, take, if◌then◌else◌, Ok, Err};
-ghost use Rattle.fault.specs.declared.refusal.Refusal.TheVariants.{Unknown};
+ghost use Rattle.std.specs.Prelude.{◌≡◌, ◌<◌, ◌≤◌, true, false, length, IfOk};
 ghost use Rattle.rules.specs.Lists.{allows, next_state, next_list};
 ghost use Rattle.rules.specs.State.{idle_list};
-ghost use Rattle.rules.specs.Steps.{joins, no_place, stepped_list};
+ghost use Rattle.rules.specs.Steps.{joins, no_place};
 ghost use Rattle.rules.specs.Uses.{start_of, end_of};
-ghost use Rattle.rules.specs.Verdicts.{accepts, and_then};
+ghost use Rattle.rules.specs.Verdicts.{and_then};
 ghost use Rattle.rules.specs.declared.list_state.ListCall.TheVariants.{Step as Record, Submit};
-ghost use Rattle.plan.specs.Views.{all_small};
-ghost use Rattle.planner.specs.Listed.{view_list, left_by};
+ghost use Rattle.planner.specs.Listed.{view_list, left_by, verdict_of, list_with};
 
-use crate::list::{CommandList, MOST_STEPS};
+use crate::list::CommandList;
 use fault::Refusal;
+use plan::Steps;
 use rules::{ListCall, ListState, Step};
 
 // Lets the state decide on a call: it goes on to the next state, or declines and stays.
@@ -60,21 +59,15 @@ impl Drop for StepGuard<'_> {
     }
 }
 
-// Puts a step behind so many others, unless its range is empty; how many there are then.
-fn join_step(steps: &mut [Step; 64], len: usize, step: Step) -> usize
-    requires fits { len ≤ 64 }
-    requires room { no_place len (start_of step) (end_of step) ≡ false }
-    requires small { (end_of step ≤ 268435456) × (all_small (take len steps.old) ≡ true) }
-    ensures full { length steps.new ≡ 64 }
-    ensures fits { result ≤ 64 }
-    ensures small { all_small (take result steps.new) ≡ true }
-    ensures held { take result steps.new ≡ joins (start_of step) (end_of step) step (take len steps.old) }
+// Puts a step behind the others, unless its range is empty.
+fn join_step(steps: &mut Steps, step: Step)
+    requires room { no_place (length steps.old) (start_of step) (end_of step) ≡ false }
+    requires small { end_of step ≤ 268435456 }
+    ensures { steps.new ≡ joins (start_of step) (end_of step) step steps.old }
 {
     if step.start() < step.end() {
-        steps[len] = step;
-        return len + 1;
+        steps.push(step);
     }
-    len
 }
 
 impl CommandList {
@@ -84,12 +77,7 @@ impl CommandList {
     {
         CommandList {
             state: ListState::Idle,
-            steps: [Step::ClearBuffer {
-                buffer: 0,
-                start: 0,
-                end: 0,
-            }; MOST_STEPS],
-            len: 0,
+            steps: Steps::new(),
         }
     }
 
@@ -98,7 +86,7 @@ impl CommandList {
         ensures answer { result ≡ length (view_list self.now).steps }
         ensures few { result ≤ 64 }
     {
-        self.len
+        self.steps.count()
     }
 
     // Open, close or abandon, or the question whether it may be submitted.
@@ -108,34 +96,30 @@ impl CommandList {
     {
         decide(&mut self.state, c)?;
         match c {
-            ListCall::Open | ListCall::Abandon => self.len = 0,
+            ListCall::Open | ListCall::Abandon => self.steps.clear(),
             ListCall::Close | ListCall::Step | ListCall::Submit => {}
         }
         Ok(())
     }
 
-    // Adds a step, whose resource was found or not and whose own causes gave a verdict.
+    // Adds a step, or gives it up: for its buffer, for the list's state, or for its own causes.
     pub(crate) fn record(
         &mut self,
-        found: bool,
-        verdict: Result<(), Refusal>,
-        step: Step,
+        known: Result<(), Refusal>,
+        step: Result<Step, Refusal>,
     ) -> Result<(), Refusal>
-        requires room { accepts verdict ≡ true → no_place (length (view_list self.old).steps) (start_of step) (end_of step) ≡ false }
-        requires small { accepts verdict ≡ true → end_of step ≤ 268435456 }
-        ensures answer { result ≡ and_then (if found then Ok tt else Err Unknown) (and_then (allows (view_list self.old).state Record) verdict) }
-        ensures after { view_list self.new ≡ stepped_list (view_list self.old) result (start_of step) (end_of step) step }
+        requires room { IfOk step (λ s. no_place (length (view_list self.old).steps) (start_of s) (end_of s) ≡ false) }
+        requires small { IfOk step (λ s. end_of s ≤ 268435456) }
+        ensures answer { result ≡ and_then known (and_then (allows (view_list self.old).state Record) (verdict_of step)) }
+        ensures after { view_list self.new ≡ list_with (view_list self.old) result step }
     {
         let mut guard = StepGuard {
             state: &mut self.state,
             finished: false,
         };
-        if !found {
-            return Err(Refusal::Unknown);
-        }
+        known?;
         decide(guard.state, ListCall::Step)?;
-        verdict?;
-        self.len = join_step(&mut self.steps, self.len, step);
+        join_step(&mut self.steps, step?);
         guard.finished = true;
         Ok(())
     }
@@ -149,12 +133,9 @@ impl CommandList {
     }
 
     // Its steps, in order.
-    pub(crate) fn recorded(&self) -> &[Step]
-        ensures steps { result.now ≡ (view_list self.now).steps }
-        ensures few { length result.now ≤ 64 }
-        ensures small { all_small result.now ≡ true }
+    pub(crate) fn recorded(&self) -> &Steps
+        ensures { result.now ≡ (view_list self.now).steps }
     {
-        let n = self.len;
-        &self.steps[0..n]
+        &self.steps
     }
 }

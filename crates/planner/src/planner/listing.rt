@@ -8,7 +8,7 @@ ghost use Rattle.planner.specs.View.{view};
 
 use crate::planner::{LISTS, Planner};
 use device::Device;
-use fault::{CallKind, Fault, NO_PLACE, NO_RESOURCE, Refusal};
+use fault::{CallKind, Fault, Refusal};
 use rules::ListCall;
 
 impl<D: Device> Planner<D> {
@@ -17,8 +17,9 @@ impl<D: Device> Planner<D> {
         ensures answer { result ≡ length (list_at (view self.now) list).steps }
         ensures few { result ≤ 64 }
     {
-        let l = list as usize;
-        if l < LISTS { self.lists[l].count() } else { 0 }
+        self.lists
+            .get(usize::from(list))
+            .map_or(0, |list| list.count())
     }
 
     // Puts the call to the list, if there is one of this number.
@@ -27,17 +28,14 @@ impl<D: Device> Planner<D> {
         ensures after { view self.new ≡ list_after (view self.old) c list }
         ensures device { self.new.device ≡ self.old.device }
     {
-        let l = list as usize;
+        let l = usize::from(list);
         if l >= LISTS {
-            return Err(Fault::new(kind, Refusal::Unknown, NO_RESOURCE, NO_PLACE));
+            return Err(Fault::of_call(kind, Refusal::Unknown));
         }
-        let mut p = self.lists[l];
-        let answer = p.call(c);
-        self.lists[l] = p;
-        match answer {
-            Ok(()) => Ok(()),
-            Err(refusal) => Err(Fault::new(kind, refusal, NO_RESOURCE, NO_PLACE)),
-        }
+        // By index: of what is written through get_mut no proof learns.
+        self.lists[l]
+            .call(c)
+            .map_err(|refusal| Fault::of_call(kind, refusal))
     }
 
     // Makes an idle list recording.

@@ -2,7 +2,7 @@
 ghost use Rattle.std.specs.Prelude.{◌≡◌, ◌<◌, ◌≤◌, is_ok, MatchResult};
 ghost use Rattle.fault.specs.Unmade.{Returned};
 ghost use Rattle.rules.specs.Making.{make_answer, make_after, destroy_answer, destroy_after};
-ghost use Rattle.rules.specs.State.{new_state, no_buffer, buffer_at};
+ghost use Rattle.rules.specs.State.{no_buffer, buffer_at, rounded_up};
 ghost use Rattle.plan.specs.Views.{view_buffer};
 ghost use Rattle.planner.specs.View.{view};
 ghost use Rattle.planner.specs.Made.{pitched, Fresh};
@@ -10,9 +10,10 @@ ghost use Rattle.planner.specs.Made.{pitched, Fresh};
 use crate::list::CommandList;
 use crate::planner::{BUFFERS, LISTS, Planner};
 use device::Device;
-use fault::{CallKind, Fault, NO_PLACE, NO_RESOURCE, Refusal, Unmade};
+use fault::{CallKind, Fault, NO_PLACE, Refusal, Unmade};
 use init_tracker::BufferInitTracker;
 use plan::{Buffer, MOST_BYTES};
+use std::array;
 
 // A number that was never given out.
 fn no_buffer() -> Buffer
@@ -24,6 +25,14 @@ fn no_buffer() -> Buffer
         copy: false,
         standing: false,
     }
+}
+
+// How many cells a buffer of so many bytes has.
+fn cells_of(size: u64) -> u64
+    requires { size ≤ 268435456 }
+    ensures { result ≡ rounded_up size }
+{
+    size.next_multiple_of(4)
 }
 
 impl<D: Device> Planner<D> {
@@ -42,7 +51,7 @@ impl<D: Device> Planner<D> {
             device,
             buffers: [no_buffer(); BUFFERS],
             made: 0,
-            lists: [CommandList::new(); LISTS],
+            lists: array::from_fn(|_| CommandList::new()),
             mark,
             pitch,
         })
@@ -74,12 +83,10 @@ impl<D: Device> Planner<D> {
     pub(crate) fn buffer(&self, number: u8) -> Buffer
         ensures { view_buffer result ≡ buffer_at (view self.now) number }
     {
-        let n = number as usize;
-        if n < BUFFERS {
-            self.buffers[n]
-        } else {
-            no_buffer()
-        }
+        self.buffers
+            .get(usize::from(number))
+            .copied()
+            .unwrap_or_else(no_buffer)
     }
 
     // A new buffer, of which every cell owes: its number, or why there is none.
@@ -90,37 +97,21 @@ impl<D: Device> Planner<D> {
     {
         let n = self.made;
         if n >= BUFFERS {
-            return Err(Fault::new(
-                CallKind::MakeBuffer,
-                Refusal::NoNumberFree,
-                NO_RESOURCE,
-                NO_PLACE,
-            ));
+            return Err(Fault::of_call(CallKind::MakeBuffer, Refusal::NoNumberFree));
         }
         if size > MOST_BYTES || copy > 1 {
-            return Err(Fault::new(
-                CallKind::MakeBuffer,
-                Refusal::BadDescription,
-                NO_RESOURCE,
-                NO_PLACE,
-            ));
+            return Err(Fault::of_call(CallKind::MakeBuffer, Refusal::BadDescription));
         }
-        let cells = (size + 3) / 4 * 4;
+        let cells = cells_of(size);
         if self.device.extent(n as u8) < cells {
-            return Err(Fault::new(
-                CallKind::MakeBuffer,
-                Refusal::BadDescription,
-                NO_RESOURCE,
-                NO_PLACE,
-            ));
+            return Err(Fault::of_call(CallKind::MakeBuffer, Refusal::BadDescription));
         }
-        let buffer = Buffer {
+        self.buffers[n] = Buffer {
             book: BufferInitTracker::new(cells),
             size,
             copy: copy == 1,
             standing: true,
         };
-        self.buffers[n] = buffer;
         self.made = n + 1;
         Ok(n as u8)
     }
@@ -131,10 +122,11 @@ impl<D: Device> Planner<D> {
         ensures after { view self.new ≡ destroy_after (view self.old) resource }
         ensures device { self.new.device ≡ self.old.device }
     {
-        let n = resource as usize;
+        let n = usize::from(resource);
         if n >= self.made {
-            return Err(Fault::new(CallKind::Destroy, Refusal::Unknown, NO_RESOURCE, NO_PLACE));
+            return Err(Fault::of_call(CallKind::Destroy, Refusal::Unknown));
         }
+        // Copied out and back: the check makes no borrow of an element's field behind `self`.
         let mut buffer = self.buffers[n];
         if !buffer.standing {
             return Err(Fault::new(CallKind::Destroy, Refusal::Destroyed, resource, NO_PLACE));

@@ -1,50 +1,56 @@
 // Recording: uses of buffers join a list, each kept whole.
-ghost use Rattle.std.specs.Prelude.{◌≡◌, ◌+◌, ◌≤◌, true, false, length};
+ghost use Rattle.std.specs.Prelude.{◌≡◌, ◌+◌, ◌≤◌, false, length, IfOk};
 ghost use Rattle.fault.specs.declared.call_kind.CallKind.TheVariants as kind;
-ghost use Rattle.rules.specs.Lists.{allows};
 ghost use Rattle.rules.specs.State.{buffer_at, list_at, put_list};
-ghost use Rattle.rules.specs.Steps.{read_causes, write_causes, clear_causes, clear_size, no_place, step_answer, step_after, stepped_list};
+ghost use Rattle.rules.specs.Steps.{read_causes, write_causes, clear_causes, clear_size, no_place, step_answer, step_after};
 ghost use Rattle.rules.specs.Uses.{start_of, end_of};
-ghost use Rattle.rules.specs.Verdicts.{accepts, and_then, told, known_buffer, known_list};
-ghost use Rattle.rules.specs.declared.list_state.ListCall.TheVariants.{Step as Record};
+ghost use Rattle.rules.specs.Verdicts.{told, known_buffer};
 ghost use Rattle.rules.specs.declared.step.Step.TheVariants as recorded;
+ghost use Rattle.planner.specs.Listed.{verdict_of, verdict_on, list_with};
 ghost use Rattle.planner.specs.View.{view};
 
 use crate::planner::{LISTS, Planner};
 use crate::uses::{check_clear, check_read, check_write};
 use device::Device;
-use fault::{CallKind, Fault, NO_PLACE, NO_RESOURCE, Refusal};
+use fault::{CallKind, Fault, Refusal};
 use rules::Step;
 
 impl<D: Device> Planner<D> {
-    // Puts a step to its list, with the verdict of its own causes.
+    // Declines a number that was never given out.
+    fn check_buffer(&self, number: u8) -> Result<(), Refusal>
+        ensures { result ≡ known_buffer (view self.now) number }
+    {
+        if usize::from(number) < self.made {
+            Ok(())
+        } else {
+            Err(Refusal::Unknown)
+        }
+    }
+
+    // Puts a step to its list, or what its own causes decline it for.
     fn record(
         &mut self,
         call: CallKind,
         list: u8,
         resource: u8,
-        verdict: Result<(), Refusal>,
-        step: Step,
+        step: Result<Step, Refusal>,
     ) -> Result<(), Fault>
-        requires room { accepts verdict ≡ true → no_place (length (list_at (view self.old) list).steps) (start_of step) (end_of step) ≡ false }
-        requires small { accepts verdict ≡ true → end_of step ≤ 268435456 }
-        ensures answer { result ≡ told call resource (length (list_at (view self.old) list).steps) (and_then (known_list (view self.old) list) (and_then (known_buffer (view self.old) resource) (and_then (allows (list_at (view self.old) list).state Record) verdict))) }
-        ensures after { view self.new ≡ put_list (view self.old) list (stepped_list (list_at (view self.old) list) (and_then (known_list (view self.old) list) (and_then (known_buffer (view self.old) resource) (and_then (allows (list_at (view self.old) list).state Record) verdict))) (start_of step) (end_of step) step) }
+        requires room { IfOk step (λ s. no_place (length (list_at (view self.old) list).steps) (start_of s) (end_of s) ≡ false) }
+        requires small { IfOk step (λ s. end_of s ≤ 268435456) }
+        ensures answer { result ≡ told call resource (length (list_at (view self.old) list).steps) (verdict_on (view self.old) list resource (verdict_of step)) }
+        ensures after { view self.new ≡ put_list (view self.old) list (list_with (list_at (view self.old) list) (verdict_on (view self.old) list resource (verdict_of step)) step) }
         ensures device { self.new.device ≡ self.old.device }
     {
-        let l = list as usize;
+        let l = usize::from(list);
         if l >= LISTS {
-            return Err(Fault::new(call, Refusal::Unknown, NO_RESOURCE, NO_PLACE));
+            return Err(Fault::of_call(call, Refusal::Unknown));
         }
         let place = self.held(list);
-        let found = (resource as usize) < self.made;
-        let mut p = self.lists[l];
-        let answer = p.record(found, verdict, step);
-        self.lists[l] = p;
-        match answer {
-            Ok(()) => Ok(()),
-            Err(refusal) => Err(Fault::new(call, refusal, resource, place as u8)),
-        }
+        let known = self.check_buffer(resource);
+        // By index: of what is written through get_mut no proof learns.
+        self.lists[l]
+            .record(known, step)
+            .map_err(|refusal| Fault::new(call, refusal, resource, place as u8))
     }
 
     // A read of a buffer's bytes from start up to end.
@@ -54,13 +60,12 @@ impl<D: Device> Planner<D> {
         ensures device { self.new.device ≡ self.old.device }
     {
         let buffer = self.buffer(resource);
-        let verdict = check_read(&buffer, start, end, self.held(list));
-        let step = Step::BufferRead {
+        let step = check_read(&buffer, start, end, self.held(list)).map(|()| Step::BufferRead {
             buffer: resource,
             start,
             end,
-        };
-        self.record(CallKind::BufferRead, list, resource, verdict, step)
+        });
+        self.record(CallKind::BufferRead, list, resource, step)
     }
 
     // A write of one byte to all of a buffer's bytes from start up to end.
@@ -77,14 +82,13 @@ impl<D: Device> Planner<D> {
         ensures device { self.new.device ≡ self.old.device }
     {
         let buffer = self.buffer(resource);
-        let verdict = check_write(&buffer, start, end, self.held(list));
-        let step = Step::BufferWrite {
+        let step = check_write(&buffer, start, end, self.held(list)).map(|()| Step::BufferWrite {
             buffer: resource,
             byte,
             start,
             end,
-        };
-        self.record(CallKind::BufferWrite, list, resource, verdict, step)
+        });
+        self.record(CallKind::BufferWrite, list, resource, step)
     }
 
     // A clear of a buffer from offset on; a missing size is what is left of it.
@@ -100,24 +104,13 @@ impl<D: Device> Planner<D> {
         ensures device { self.new.device ≡ self.old.device }
     {
         let buffer = self.buffer(resource);
-        let held = self.held(list);
-        match check_clear(&buffer, offset, size, held) {
-            Ok(end) => {
-                let step = Step::ClearBuffer {
-                    buffer: resource,
-                    start: offset,
-                    end,
-                };
-                self.record(CallKind::ClearBuffer, list, resource, Ok(()), step)
-            }
-            Err(refusal) => {
-                let step = Step::ClearBuffer {
-                    buffer: resource,
-                    start: offset,
-                    end: 0,
-                };
-                self.record(CallKind::ClearBuffer, list, resource, Err(refusal), step)
-            }
-        }
+        let step = check_clear(&buffer, offset, size, self.held(list)).map(
+            |end| Step::ClearBuffer {
+                buffer: resource,
+                start: offset,
+                end,
+            },
+        );
+        self.record(CallKind::ClearBuffer, list, resource, step)
     }
 }

@@ -9,11 +9,12 @@ ghost use Rattle.rules.specs.Submission.{submit_answer, submit_after, submit_com
 ghost use Rattle.planner.specs.View.{view};
 
 use crate::list::CommandList;
-use crate::planner::{LISTS, Planner};
+use crate::planner::Planner;
 use device::Device;
-use fault::{CallKind, Fault, NO_PLACE, NO_RESOURCE, Refusal};
+use fault::{CallKind, Fault, Refusal};
 use plan::submit_steps;
 use rules::Report;
+use std::mem;
 
 impl<D: Device> Planner<D> {
     // Declines a list that there is not, or that is not closed.
@@ -21,14 +22,11 @@ impl<D: Device> Planner<D> {
         ensures answer { result ≡ told Submitting 255 64 (list_verdict (view self.now) Submit list) }
         ensures known { is_ok result ≡ true → list < 4 }
     {
-        let l = list as usize;
-        if l >= LISTS {
-            return Err(Fault::new(CallKind::Submit, Refusal::Unknown, NO_RESOURCE, NO_PLACE));
-        }
-        match self.lists[l].submittable() {
-            Ok(()) => Ok(()),
-            Err(refusal) => Err(Fault::new(CallKind::Submit, refusal, NO_RESOURCE, NO_PLACE)),
-        }
+        self.lists
+            .get(usize::from(list))
+            .ok_or(Refusal::Unknown)
+            .and_then(|list| list.submittable())
+            .map_err(|refusal| Fault::of_call(CallKind::Submit, refusal))
     }
 
     // Submits a closed list: all of its work and a report of it, or nothing at all.
@@ -40,10 +38,13 @@ impl<D: Device> Planner<D> {
         ensures report { report.new ≡ submit_report (view self.old) (D.Device.meaning self.old.device) list report.old }
     {
         self.check_list(list)?;
-        let l = list as usize;
-        let p = self.lists[l];
-        submit_steps(&mut self.device, &mut self.buffers, p.recorded(), report)?;
-        self.lists[l] = CommandList::new();
-        Ok(())
+        let l = usize::from(list);
+        // Taken out, since the check lends no list beside the device behind `self`; put back where it is declined.
+        let list = mem::replace(&mut self.lists[l], CommandList::new());
+        let answer = submit_steps(&mut self.device, &mut self.buffers, list.recorded(), report);
+        if answer.is_err() {
+            self.lists[l] = list;
+        }
+        answer
     }
 }

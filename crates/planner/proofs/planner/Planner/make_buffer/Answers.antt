@@ -1,7 +1,8 @@
 use Rattle.std.proofs.Common.{◌≡◌, ℕ, ◌+◌, Bool, true, eqb, List, Ok, sym, refl, ap, ◌∙◌, arith}
 use Rattle.std.proofs.lemmas.Bool.{cond-true}
 use Rattle.std.proofs.lemmas.Bool.Decides.{nat_tests}
-use Rattle.rules.specs.Making.{make_verdict, numbered, fresh_buffer}
+use Rattle.range_list.specs.Ranges.{whole}
+use Rattle.rules.specs.Making.{make_verdict, fresh_buffer}
 use Rattle.rules.specs.State.{Buffer}
 use Rattle.rules.specs.Verdicts.{accepts}
 use Rattle.planner.specs.View.{view}
@@ -12,9 +13,9 @@ use Rattle.planner.proofs.planner.Planner.make_buffer.Goals as goal
 fresh : ℕ → Bool → List (ℕ × ℕ) → Buffer
 fresh n b o = record { size = n; copy = b; standing = true; owes = o }
 
-pub returns : goal.returns
+pub returns-clause-after : goal.returns-clause-after
 unfolding fresh
-returns g c =
+returns-clause-after g c =
     let p = c.args.self.now in
     let st = view p in
     let n = p.made in
@@ -22,8 +23,4 @@ returns g c =
     let ext = (g.D.Device.meaning p.device).extent in
     let reach = c.extent.ensures in
     let v : make_verdict st ext size c.args.copy ≡ Ok tt = grind (arith, nat_tests) in
-    record {
-      answer = sym (ap (λ w. numbered w n) v);
-      after = buffer_put st p.buffers refl n (n + 1) _ (fresh_buffer size c.args.copy) (ap (λ o. fresh size (eqb c.args.copy 1) o) c.new-2.ensures.owing) ∙ sym (cond-true (accepts (make_verdict st ext size c.args.copy)) _ st (ap accepts v));
-      device = refl;
-    }
+    buffer_put st p.buffers refl n (n + 1) _ (fresh_buffer size c.args.copy) (ap (fresh size (eqb c.args.copy 1)) (c.new.ensures.owing ∙ ap whole c.cells_of-cells.ensures)) ∙ sym (cond-true (accepts (make_verdict st ext size c.args.copy)) _ st (ap accepts v))
