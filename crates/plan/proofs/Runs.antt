@@ -8,7 +8,9 @@ use Rattle.device.specs.declared.command.Command.{Command}
 use Rattle.device.proofs.Cells.{ran_append, ran_append_at, ran_same}
 use Rattle.device.proofs.Sums.{summed_same}
 use Rattle.rules.specs.Planning.{clear_of, clears_of}
-use Rattle.rules.specs.Submission.{all_fit, step_fits, steps_fit, over}
+use Rattle.rules.specs.Submission.{all_fit, step_fits, steps_fit}
+use Rattle.rules.specs.Reports.{beside, over}
+use Rattle.rules.specs.declared.report.ReadSum.{ReadSum}
 use Rattle.rules.specs.Uses.{commands_of, step_commands, sums_of, step_sums, commands_before}
 use Rattle.rules.specs.declared.piece.Piece.{Piece}
 use Rattle.rules.specs.declared.report.Report.{Report}
@@ -85,28 +87,43 @@ sums_same f g (BufferWrite b byte start end) h = refl
 sums_same f g (ClearBuffer b start end) h = refl
 
 -- one place more is filled
-pub over_push : (xs old : List ℕ) (x : ℕ) → length xs < length old → set (over xs old) (length xs) x ≡ over (xs ++ (x ∷ [])) old
+pub over_push : (xs old : List ReadSum) (x : ReadSum) → length xs < length old → set (over xs old) (length xs) x ≡ over (xs ++ (x ∷ [])) old
 over_push [] [] x lt = absurd (omega arith)
 over_push [] (o ∷ os) x lt = refl
 over_push (y ∷ ys) [] x lt = absurd (omega arith)
 over_push (y ∷ ys) (o ∷ os) x lt = ap (λ l. y ∷ l) (over_push ys os x (omega arith))
 
-abbrev rebuilt : Report → ℕ → List ℕ → List ℕ → Report
-rebuilt r n ss bs = record { cleared = r.cleared; commands = r.commands; reads = n; sums = ss; before = bs }
+-- one sum more beside its number
+pub beside_push : (ss bs : List ℕ) (s b : ℕ) → length bs ≡ length ss → beside (ss ++ (s ∷ [])) (bs ++ (b ∷ [])) ≡ beside ss bs ++ (record { total = s; before = b } ∷ [])
+beside_push [] [] s b e = refl
+beside_push [] (c ∷ bs) s b e = absurd (omega arith)
+beside_push (t ∷ ss) [] s b e = absurd (omega arith)
+beside_push (t ∷ ss) (c ∷ bs) s b e = ap (λ l. record { total = t; before = c } ∷ l) (beside_push ss bs s b (omega arith))
+
+-- there are as many as there are sums
+pub length_beside : (ss bs : List ℕ) → length bs ≡ length ss → length (beside ss bs) ≡ length ss
+length_beside [] bs e = refl
+length_beside (s ∷ ss) [] e = absurd (omega arith)
+length_beside (s ∷ ss) (b ∷ bs) e = ap suc (length_beside ss bs (omega arith))
+
+abbrev rebuilt : Report → ℕ → List ReadSum → Report
+rebuilt r n ss = record { cleared = r.cleared; commands = r.commands; reads = n; sums = ss }
 
 pub filled_push : (r : Report) (sums befores : List ℕ) (f : ℕ → ℕ → ℕ) (s : Step) (done : ℕ) → length befores ≡ length sums
-    → length sums < length r.sums → length sums < length r.before
+    → length sums < length r.sums
     → noted_step (filled r sums befores) (sums_of f s) done ≡ filled r (sums ++ sums_of f s) (befores ++ commands_before done (s ∷ []))
-filled_push r sums befores f (BufferRead b start end) done e ls lb =
+filled_push r sums befores f (BufferRead b start end) done e ls =
     let x = summed (f b) start (end - start) in
-    let p : set (over sums r.sums) (length sums) x ≡ over (sums ++ (x ∷ [])) r.sums = over_push sums r.sums x ls in
-    let q : set (over befores r.before) (length sums) done ≡ over (befores ++ (done ∷ [])) r.before =
-    ap (λ m. set (over befores r.before) m done) (sym e) ∙ over_push befores r.before done (omega arith) in
+    let y : ReadSum = record { total = x; before = done } in
+    let both = beside sums befores in
+    let as_many : length both ≡ length sums = length_beside sums befores e in
+    let p : set (over both r.sums) (length sums) y ≡ over (both ++ (y ∷ [])) r.sums =
+    ap (λ (m : ℕ). set (over both r.sums) m y) (sym as_many) ∙ over_push both r.sums y (omega arith) in
     let n : length sums + 1 ≡ length (sums ++ (x ∷ [])) = sym (length_push sums x) in
-    ap (λ (m : ℕ). rebuilt r m (set (over sums r.sums) (length sums) x) (set (over befores r.before) (length sums) done)) n
-    ∙ ap (λ l. rebuilt r (length (sums ++ (x ∷ []))) l (set (over befores r.before) (length sums) done)) p
-    ∙ ap (λ l. rebuilt r (length (sums ++ (x ∷ []))) (over (sums ++ (x ∷ [])) r.sums) l) q
-filled_push r sums befores f (BufferWrite b byte start end) done e ls lb =
+    ap (λ (m : ℕ). rebuilt r m (set (over both r.sums) (length sums) y)) n
+    ∙ ap (λ l. rebuilt r (length (sums ++ (x ∷ []))) l) p
+    ∙ ap (λ l. rebuilt r (length (sums ++ (x ∷ []))) (over l r.sums)) (sym (beside_push sums befores x done e))
+filled_push r sums befores f (BufferWrite b byte start end) done e ls =
     ap (λ l. filled r l befores) (sym (append-nil sums)) ∙ ap (λ l. filled r (sums ++ []) l) (sym (append-nil befores))
-filled_push r sums befores f (ClearBuffer b start end) done e ls lb =
+filled_push r sums befores f (ClearBuffer b start end) done e ls =
     ap (λ l. filled r l befores) (sym (append-nil sums)) ∙ ap (λ l. filled r (sums ++ []) l) (sym (append-nil befores))

@@ -1,6 +1,6 @@
 -- How a report fills: each read's sum in the next place, and beside it the commands that went before.
 use Rattle.std.specs.Prelude.{ℕ, ◌+◌, List, [], ◌∷◌, length, slice_set}
-use Rattle.rules.specs.Submission.{over}
+use Rattle.rules.specs.Reports.{beside, over}
 use Rattle.rules.specs.declared.report.Report.{Report}
 
 -- one sum more, after so many commands
@@ -10,8 +10,7 @@ noted r sum done =
       cleared = r.cleared;
       commands = r.commands;
       reads = r.reads + 1;
-      sums = slice_set r.sums r.reads sum;
-      before = slice_set r.before r.reads done;
+      sums = slice_set r.sums r.reads (record { total = sum; before = done });
     }
 
 -- the sums of one step, of which there is at most one
@@ -26,6 +25,5 @@ filled r sums befores =
       cleared = r.cleared;
       commands = r.commands;
       reads = length sums;
-      sums = over sums r.sums;
-      before = over befores r.before;
+      sums = over (beside sums befores) r.sums;
     }

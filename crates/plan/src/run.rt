@@ -9,7 +9,7 @@ ghost use Rattle.plan.specs.Notes.{noted, noted_step, filled};
 
 use crate::Steps;
 use device::{Command, Device};
-use rules::{Piece, Report, Step};
+use rules::{Piece, ReadSum, Report, Step};
 
 // Has the device take a command that it can't decline.
 fn command<D: Device>(device: &mut D, c: Command)
@@ -38,10 +38,11 @@ fn note_sum(report: &mut Report, sum: u64, done: u64)
     requires { report.old.reads < 64 }
     ensures { report.new ≡ noted report.old sum done }
 {
-    // By index: the report is arrays that the caller hands in.
-    let place = report.reads as usize;
-    report.sums[place] = sum;
-    report.before[place] = done;
+    // By index: the caller hands the places in, and those past the sums stay as they were.
+    report.sums[report.reads as usize] = ReadSum {
+        total: sum,
+        before: done,
+    };
     report.reads += 1;
 }
 
@@ -73,7 +74,7 @@ fn run_step<D: Device>(device: &mut D, step: Step, done: u64, report: &mut Repor
 pub(crate) fn run_steps<D: Device>(device: &mut D, steps: &Steps, done: u64, report: &mut Report)
     requires few { done < 2 ^ 62 }
     requires none { report.old.reads ≡ 0 }
-    requires wide { (length report.old.sums ≡ 64) × (length report.old.before ≡ 64) }
+    requires wide { length report.old.sums ≡ 64 }
     requires left { length (step_commands steps.now) ≤ (D.Device.meaning device.old).allowance }
     requires fits { steps_fit (D.Device.meaning device.old).extent steps.now ≡ true }
     ensures followed { Followed (D.Device.meaning device.old) (step_commands steps.now) (D.Device.meaning device.new) }

@@ -1,5 +1,5 @@
 -- A small run by the rules: a buffer of 6 bytes, 0..4 written with 9, 0..6 read, submitted, and submitted again.
-use Rattle.std.specs.Prelude.{◌≡◌, ℕ, ◌-◌, List, [], ◌∷◌, length, Ok, Err}
+use Rattle.std.specs.Prelude.{◌≡◌, ℕ, ◌-◌, List, [], ◌∷◌, map, length, Ok, Err}
 use Rattle.fault.specs.declared.call_kind.CallKind.TheVariants.{Submit as Submitting}
 use Rattle.fault.specs.declared.refusal.Refusal.TheVariants.{WrongState}
 use Rattle.fault.specs.Parts.{fault_of}
@@ -11,6 +11,7 @@ use Rattle.rules.specs.Calls.{Answer, Outcome, outcome}
 use Rattle.rules.specs.declared.answer.Accepted.TheVariants.{Made, Done, Submitted}
 use Rattle.rules.specs.declared.call.Call.{Call}
 use Rattle.rules.specs.declared.call.Call.TheVariants.{MakeBuffer, Open, BufferWrite, BufferRead, Close, Submit}
+use Rattle.rules.specs.Reports.{beside}
 use Rattle.rules.specs.declared.report.Report.{Report}
 
 -- a device after the commands of a call
@@ -37,12 +38,12 @@ cleareds (o ∷ os) = o.report.cleared ∷ cleareds os
 
 abbrev pub first_sums : List Outcome → List (List ℕ)
 first_sums [] = []
-first_sums (o ∷ os) = o.report.sums ∷ first_sums os
+first_sums (o ∷ os) = map (λ s. s.total) o.report.sums ∷ first_sums os
 
 abbrev pub sample_outcomes : List Outcome
 sample_outcomes =
     outcomes (new_state 0 1) (record { extent = λ s. 1099511627776; cell = λ s i. 7; allowance = 8 })
-    (record { cleared = 0; commands = 0; reads = 0; sums = 5 ∷ 5 ∷ []; before = 5 ∷ 5 ∷ [] })
+    (record { cleared = 0; commands = 0; reads = 0; sums = beside (5 ∷ 5 ∷ []) (5 ∷ 5 ∷ []) })
     (MakeBuffer 6 0 ∷ Open 0 ∷ BufferWrite 0 0 9 0 4 ∷ BufferRead 0 0 0 6 ∷ Close 0 ∷ Submit 0 ∷ Submit 0 ∷ [])
 
 -- what is answered, commanded and summed

@@ -1,5 +1,5 @@
 -- Submission: what declines it before the first command, and what an accepted one does.
-use Rattle.std.specs.Prelude.{ℕ, ◌+◌, ◌-◌, Bool, true, cond, ◌&&◌, List, [], ◌∷◌, ◌++◌, length, drop, Ok, Err, Result, nat_le, slice_index_or}
+use Rattle.std.specs.Prelude.{ℕ, ◌+◌, ◌-◌, Bool, true, cond, ◌&&◌, List, [], ◌∷◌, ◌++◌, length, Ok, Err, Result, nat_le, slice_index_or}
 use Rattle.fault.specs.declared.Fault.{Fault}
 use Rattle.fault.specs.declared.call_kind.CallKind.TheVariants.{Submit as Submitting}
 use Rattle.fault.specs.declared.refusal.Refusal.TheVariants.{Destroyed, PlacesFull, AllowanceShort, BadDescription}
@@ -8,6 +8,7 @@ use Rattle.device.specs.declared.command.Command.{Command}
 use Rattle.device.specs.Commands.{fits_in}
 use Rattle.device.specs.Meaning.{Meaning, ran}
 use Rattle.rules.specs.State.{State, Buffer, no_buffer, idle_list, list_at, with_buffers, put_list}
+use Rattle.rules.specs.Reports.{beside, over}
 use Rattle.rules.specs.Verdicts.{and_then, accepts, told}
 use Rattle.rules.specs.Lists.{list_verdict}
 use Rattle.rules.specs.Uses.{buffer_of, start_of, end_of, step_commands, step_sums, commands_before}
@@ -73,10 +74,6 @@ abbrev pub submit_commands : State → Meaning → ℕ → List Command
 submit_commands st m l =
     cond (accepts (submit_answer st m l)) (all_commands st.buffers (list_at st l).steps) []
 
--- the first places hold these numbers, and the others what they held
-abbrev pub over : List ℕ → List ℕ → List ℕ
-over xs old = xs ++ drop (length xs) old
-
 -- the cells cleared for reads, the commands, and for each read its sum and how many commands went before it
 abbrev pub reported : Meaning → List Buffer → List Step → Report → Report
 reported m bs ss old =
@@ -84,8 +81,7 @@ reported m bs ss old =
       cleared = cells_in (planned bs ss);
       commands = length (all_commands bs ss);
       reads = length (step_sums (ran m.cell (clears_of (planned bs ss))) ss);
-      sums = over (step_sums (ran m.cell (clears_of (planned bs ss))) ss) old.sums;
-      before = over (commands_before (length (planned bs ss)) ss) old.before;
+      sums = over (beside (step_sums (ran m.cell (clears_of (planned bs ss))) ss) (commands_before (length (planned bs ss)) ss)) old.sums;
     }
 
 abbrev pub submit_report : State → Meaning → ℕ → Report → Report

@@ -14,5 +14,5 @@ pub use call::Call;
 pub use laws::{clears_as_webgpu, sample_stands};
 pub use list_state::{ListCall, ListState};
 pub use piece::Piece;
-pub use report::{Records, Report};
+pub use report::{ReadSum, Records, Report};
 pub use step::Step;

@@ -2,6 +2,13 @@
 ghost use Rattle.std.specs.Prelude.{◌≡◌, length};
 ghost use Rattle.rules.specs.Reports.{blank_report, begun};
 
+// What a read summed, and how many commands of its submission went before it.
+#[derive(Clone, Copy, Debug, Default, PartialEq, Eq)]
+pub struct ReadSum {
+    pub total: u64,
+    pub before: u64,
+}
+
 #[derive(Clone, Copy, Debug, PartialEq, Eq)]
 pub struct Report {
     // How many cells were cleared for reads.
@@ -10,11 +17,8 @@ pub struct Report {
     pub commands: u64,
     // How many sums there are: one for each read, in order.
     pub reads: u64,
-    // Arrays and a count: the caller hands them in, and places that no read fills stay as they were.
-    // The sums; those past `reads` are as they were.
-    pub sums: [u64; 64],
-    // How many commands of the submission went before each sum; those past `reads` are as they were.
-    pub before: [u64; 64],
+    // The sums. An array and a count: its caller hands the memory in, and places that no read fills stay as they were.
+    pub sums: [ReadSum; 64],
 }
 
 impl Report {
@@ -26,15 +30,14 @@ impl Report {
             cleared: 0,
             commands: 0,
             reads: 0,
-            sums: [0; 64],
-            before: [0; 64],
+            sums: [ReadSum::default(); 64],
         }
     }
 
     // Begins the report of a submission, with no sum yet.
     pub fn begin(&mut self, cleared: u64, commands: u64)
         ensures after { self.new ≡ begun self.old cleared commands }
-        ensures wide { (length self.old.sums ≡ 64) × (length self.old.before ≡ 64) }
+        ensures wide { length self.old.sums ≡ 64 }
     {
         self.cleared = cleared;
         self.commands = commands;

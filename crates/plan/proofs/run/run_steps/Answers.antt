@@ -69,7 +69,7 @@ loop-step-preserved g c =
     c.run_step-after.ensures.report
     ∙ ap (λ x. noted_step x (sums_of (mean here).cell s) c.loop-step.after) c.loop-step.invariant.4
     ∙ ap (λ l. noted_step (filled r sums befores) l c.loop-step.after) same
-    ∙ filled_push r sums befores (ran f xs) s c.loop-step.after (befores_sums c.args.done f (take k ss)) (omega arith) (omega arith)
+    ∙ filled_push r sums befores (ran f xs) s c.loop-step.after (befores_sums c.args.done f (take k ss)) (omega arith)
     ∙ ap (λ l. filled r l (befores ++ commands_before c.loop-step.after (s ∷ []))) more
     ∙ ap (λ l. filled r (step_sums f (take (k + 1) ss)) l) later in (
       omega arith,
