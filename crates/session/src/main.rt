@@ -8,7 +8,7 @@ use std::{env, fs, io};
 // Prints the listing of these bytes.
 fn list(rt: &HostRuntime, input: &[u8]) -> io::Result<()> {
     let listing = run(rt.alloc(), input)?;
-    rt.stdout().write_all(listing.as_slice())
+    rt.stdout().write_all(listing.as_bytes())
 }
 
 // What is not listed is told in a line on standard error.
@@ -34,13 +34,12 @@ fn list_file(rt: &HostRuntime, name: &str) -> io::Result<()> {
 
 // Each file that is named, up to the first that is not listed, or else standard input.
 fn main(rt: HostRuntime) -> io::Result<()> {
-    let mut named = false;
-    for name in env::args(&rt)?.skip(1) {
-        named = true;
+    let mut names = env::args(&rt)?.skip(1).peekable();
+    if names.peek().is_none() {
+        return told(&rt, "standard input", list_input(&rt));
+    }
+    for name in names {
         told(&rt, name.as_str(), list_file(&rt, name.as_str()))?;
     }
-    if named {
-        return Ok(());
-    }
-    told(&rt, "standard input", list_input(&rt))
+    Ok(())
 }

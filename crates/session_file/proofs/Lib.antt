@@ -1,6 +1,4 @@
 pub mod Appends
-pub mod Parts
-pub mod Pairs
-pub mod Listed
+pub mod Left
 pub mod Moments
 pub mod Turns

@@ -1,38 +1,17 @@
 -- A planner over a journal goes from moment to moment as the session says.
-use Rattle.std.proofs.Common.{◌≡◌, ℕ, ◌-◌, List, [], ◌++◌, length, get_or, drop, replicate, vec_items, vec_len, refl, ap, ◌∙◌, arith}
-use Rattle.std.proofs.lemmas.List.{drop_at, length-take-le}
+use Rattle.std.proofs.Common.{◌≡◌, ℕ, ◌-◌, List, length, get_or, replicate, vec_items, vec_len, ap, ◌∙◌, arith}
+use Rattle.std.proofs.lemmas.List.{length-take-le}
 use Rattle.device.specs.Journal.{Continued, meaning_of, written}
 use Rattle.device.specs.Meaning.{Meaning, most_cells, ran}
 use Rattle.device.specs.declared.command.Command.{Command}
 use Rattle.device.specs.declared.journal.Journal.{Journal}
-use Rattle.rules.specs.State.{State, new_state}
-use Rattle.rules.specs.Calls.{Outcome, outcome}
-use Rattle.rules.specs.Reports.{blank_report}
+use Rattle.rules.specs.State.{State}
+use Rattle.rules.specs.Calls.{outcome}
 use Rattle.rules.specs.declared.call.Call.{Call}
 use Rattle.rules.specs.declared.report.Report.{Report}
-use Rattle.session_file.specs.Session.{Moment, after, beginning, device_after, done}
+use Rattle.session_file.specs.Session.{device_after, done}
 use Rattle.session_file.specs.Standing.{MadeBy, moment_of, performed}
 use Rattle.session_file.specs.declared.header.Header.{Header}
-
--- what a journal has behind the commands of before is what it was given since
-pub since_commands : (j k : Journal) (cs : List Command) → Continued j cs k → drop (length (written j)) (written k) ≡ cs
-since_commands j k cs h = ap (drop (length (written j))) h.writes ∙ drop_at (written j) cs (length (written j)) refl
-
--- a moment, by its parts
-moment : State → List Command → Report → Moment
-moment st log r = record { state = st; log = log; report = r }
-
--- a planner that follows an outcome comes to the moment after it
-pub moment_after : (st su : State) (j k : Journal) (r s : Report) (o : Outcome) → su ≡ o.state → Continued j o.commands k → s ≡ o.report → moment_of su k s ≡ after (moment_of st j r) o
-unfolding moment
-moment_after st su j k r s o p h q =
-    ap (λ x. moment x (written k) s) p ∙ ap (λ x. moment o.state x s) h.writes ∙ ap (moment o.state (written j ++ o.commands)) q
-
--- a new planner over a journal with nothing written is at the beginning
-pub moment_begins : (h : Header) (st : State) (j : Journal) (r : Report) → st ≡ new_state 0 h.pitch → written j ≡ [] → r ≡ blank_report → moment_of st j r ≡ beginning h
-unfolding moment
-moment_begins h st j r p q e =
-    ap (λ x. moment x (written j) r) p ∙ ap (λ x. moment (new_state 0 h.pitch) x r) q ∙ ap (moment (new_state 0 h.pitch) []) e
 
 -- a journal as others see it, by its parts
 meaning : List ℕ → ℕ → List Command → ℕ → Meaning

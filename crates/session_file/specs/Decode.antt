@@ -2,6 +2,7 @@
 use Rattle.std.specs.Prelude.{ℕ, cond, List, [], ◌∷◌, length, Some, None, Option, ◌==◌, nat_le}
 use Rattle.rules.specs.declared.call.Call.{Call}
 use Rattle.rules.specs.declared.call.Call.TheVariants.{MakeBuffer, Destroy, Open, Close, Abandon, Submit, BufferRead, BufferWrite, ClearBuffer, Unknown}
+use Rattle.session_file.specs.declared.decode.Fields.{Fields}
 use Rattle.session_file.specs.Words.{byte, long}
 
 -- the call beside a number, and an unknown one where the number stands in no row
@@ -28,6 +29,10 @@ called_by op list resource small x y =
     ∷ (9, BufferWrite list resource small x y)
     ∷ (10, clear_call list resource small x y)
     ∷ [])
+
+-- the same of the fields of a call
+abbrev pub fields_call : Fields → Call
+fields_call f = called_by f.operation f.list f.resource f.small f.x f.y
 
 -- the call at the front of these bytes, or none where they are too few for one
 abbrev pub call_of : List ℕ → Option Call

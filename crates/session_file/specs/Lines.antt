@@ -1,11 +1,13 @@
 -- The lines of a listing, as bytes.
-use Rattle.std.specs.Prelude.{ℕ, List, [], ◌∷◌, ◌++◌, codes, decimal}
+use Rattle.std.specs.Prelude.{ℕ, List, [], ◌∷◌, ◌++◌, codes, decimal, Ok, Err}
 use Rattle.fault.specs.Numbers.{number_of}
 use Rattle.device.specs.declared.command.Command.{Command}
 use Rattle.device.specs.declared.command.CommandKind.{CommandKind}
 use Rattle.device.specs.declared.command.CommandKind.TheVariants.{Clear, Copy, Pass, Fill}
-use Rattle.rules.specs.declared.answer.Answer.{Answer}
-use Rattle.rules.specs.declared.answer.Answer.TheVariants.{Made, Done, Submitted, Declined}
+use Rattle.rules.specs.Calls.{Answer}
+use Rattle.rules.specs.declared.answer.Accepted.TheVariants.{Made, Done, Submitted}
+use Rattle.session_file.specs.declared.lines.Line.{Line}
+use Rattle.session_file.specs.declared.lines.Line.TheVariants as line
 
 -- a command's first word
 abbrev pub kind_word : CommandKind → List ℕ
@@ -49,7 +51,15 @@ bad_line = codes "no 20\n"
 
 -- the line of a call: its value is the number made, the cells cleared of a submission, and else 0
 abbrev pub answer_line : ℕ → ℕ → Answer → List ℕ
-answer_line k cleared (Made n) = ok_line k n
-answer_line k cleared Done = ok_line k 0
-answer_line k cleared Submitted = ok_line k cleared
-answer_line k cleared (Declined f) = no_line k (number_of f.refusal)
+answer_line k cleared (Ok (Made n)) = ok_line k n
+answer_line k cleared (Ok Done) = ok_line k 0
+answer_line k cleared (Ok Submitted) = ok_line k cleared
+answer_line k cleared (Err f) = no_line k (number_of f.refusal)
+
+-- the bytes of a line, by what it says
+abbrev pub line_bytes : Line → List ℕ
+line_bytes (line.Taken c) = command_line c
+line_bytes (line.Sum n) = sum_line n
+line_bytes (line.Accepted k v) = ok_line k v
+line_bytes (line.Declined k cause) = no_line k (number_of cause)
+line_bytes line.Bad = bad_line

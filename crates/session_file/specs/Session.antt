@@ -1,12 +1,11 @@
 -- A whole session, from the bytes of its file to the bytes of its listing.
-use Rattle.std.specs.Prelude.{ℕ, zero, suc, ◌+◌, ◌-◌, List, [], ◌++◌, length, drop, replicate, Some, None, Option, slice_index}
+use Rattle.std.specs.Prelude.{ℕ, zero, suc, ◌+◌, ◌-◌, List, [], ◌++◌, length, drop, replicate, Some, None, Option, Ok, Err, slice_index}
 use Rattle.device.specs.declared.command.Command.{Command}
 use Rattle.device.specs.Meaning.{Meaning, most_cells, ran}
 use Rattle.rules.specs.State.{State, new_state}
-use Rattle.rules.specs.Calls.{Outcome, outcome}
+use Rattle.rules.specs.Calls.{Answer, Outcome, outcome}
 use Rattle.rules.specs.Reports.{blank_report}
-use Rattle.rules.specs.declared.answer.Answer.{Answer}
-use Rattle.rules.specs.declared.answer.Answer.TheVariants.{Made, Done, Submitted, Declined}
+use Rattle.rules.specs.declared.answer.Accepted.TheVariants.{Made, Done, Submitted}
 use Rattle.rules.specs.declared.call.Call.{Call}
 use Rattle.rules.specs.declared.report.Report.{Report}
 use Rattle.session_file.specs.Decode.{call_of}
@@ -45,10 +44,10 @@ after m o = record { state = o.state; log = m.log ++ o.commands; report = o.repo
 
 -- only an accepted submission has work to list
 abbrev pub work_of : Answer → List Command → Report → List ℕ
-work_of (Made n) cs r = []
-work_of Done cs r = []
-work_of Submitted cs r = work_lines cs r
-work_of (Declined f) cs r = []
+work_of (Ok (Made n)) cs r = []
+work_of (Ok Done) cs r = []
+work_of (Ok Submitted) cs r = work_lines cs r
+work_of (Err f) cs r = []
 
 -- what a call lists: its work, and then its own line under its number
 abbrev pub call_lines : ℕ → Answer → List Command → Report → List ℕ

@@ -1,18 +1,13 @@
 -- What an accepted submission did, in the order in which it happened.
 use Rattle.std.specs.Prelude.{ℕ, ◌-◌, List, [], ◌∷◌, ◌++◌, take, drop}
+use Rattle.std.specs.List.{zip}
 use Rattle.device.specs.declared.command.Command.{Command}
 use Rattle.rules.specs.declared.report.Report.{Report}
 use Rattle.session_file.specs.Lines.{command_lines, sum_line}
 
--- each sum beside the number of commands before it
-abbrev pub beside : List ℕ → List ℕ → List (ℕ × ℕ)
-beside [] bs = []
-beside (s ∷ ss) [] = []
-beside (s ∷ ss) (b ∷ bs) = (s, b) ∷ beside ss bs
-
--- the reads of a report, in order
+-- the reads of a report, in order: each sum beside the number of commands before it
 abbrev pub reads_of : Report → List (ℕ × ℕ)
-reads_of r = take r.reads (beside r.sums r.before)
+reads_of r = take r.reads (zip r.sums r.before)
 
 -- from a command on: before each sum the commands that went before it, and at the end those that are left
 abbrev pub worked : List Command → ℕ → List (ℕ × ℕ) → List ℕ

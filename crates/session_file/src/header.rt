@@ -2,6 +2,8 @@
 ghost use Rattle.std.specs.Prelude.{◌≡◌};
 ghost use Rattle.session_file.specs.Header.{header_of};
 
+use crate::words::word_at;
+
 // How many bytes a header has.
 const BYTES: u32 = 20;
 
@@ -11,7 +13,7 @@ const MOST_ALLOWANCE: u32 = 1024;
 // The largest pitch.
 const MOST_PITCH: u32 = 256;
 
-#[derive(Clone, Copy)]
+#[derive(Clone, Copy, Debug, PartialEq, Eq)]
 pub struct Header {
     // How many calls there are.
     pub calls: u32,
@@ -29,48 +31,21 @@ pub struct Header {
 pub fn read_header(input: &[u8]) -> Option<Header>
     ensures { result ≡ header_of input.now }
 {
-    let [
-        n0,
-        n1,
-        n2,
-        n3,
-        o0,
-        o1,
-        o2,
-        o3,
-        a0,
-        a1,
-        a2,
-        a3,
-        s0,
-        s1,
-        s2,
-        s3,
-        p0,
-        p1,
-        p2,
-        p3,
-        rest @ ..,
-    ] = input
-    else {
+    if input.len() < BYTES as usize {
         return None;
+    }
+    let header = Header {
+        calls: word_at(input, 0),
+        offset: word_at(input, 4),
+        allowance: word_at(input, 8),
+        start: u8::try_from(word_at(input, 12)).ok()?,
+        pitch: word_at(input, 16),
     };
-    let calls = u32::from_le_bytes([*n0, *n1, *n2, *n3]);
-    let offset = u32::from_le_bytes([*o0, *o1, *o2, *o3]);
-    let allowance = u32::from_le_bytes([*a0, *a1, *a2, *a3]);
-    let start = u32::from_le_bytes([*s0, *s1, *s2, *s3]);
-    let pitch = u32::from_le_bytes([*p0, *p1, *p2, *p3]);
-    if offset < BYTES || (offset - BYTES) as usize > rest.len() {
+    if header.offset < BYTES || header.offset as usize > input.len() {
         return None;
     }
-    if allowance > MOST_ALLOWANCE || start > 255 || pitch == 0 || pitch > MOST_PITCH {
+    if header.allowance > MOST_ALLOWANCE || header.pitch == 0 || header.pitch > MOST_PITCH {
         return None;
     }
-    Some(Header {
-        calls,
-        offset,
-        allowance,
-        start: start as u8,
-        pitch,
-    })
+    Some(header)
 }

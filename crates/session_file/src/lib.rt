@@ -1,13 +1,13 @@
 // Session files: reading one, call by call, and writing its listing.
 #![tactic(auto)]
 
-mod calls;
 mod decode;
 mod header;
 mod journal;
 mod laws;
 mod lines;
 mod session;
+mod words;
 mod work;
 
 pub use decode::decode_call;

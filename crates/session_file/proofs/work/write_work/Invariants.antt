@@ -1,8 +1,11 @@
-use Rattle.std.proofs.Common.{◌≡◌, ◌++◌, drop, vec_items}
-use Rattle.session_file.specs.Work.{reads_of, worked, work_lines}
+use Rattle.std.proofs.Common.{◌≡◌, ◌++◌, take, string_bytes}
+use Rattle.std.specs.List.{zip}
+use Rattle.std.specs.Slice.Iter.{iter_rest}
+use Rattle.session_file.specs.Work.{worked, work_lines}
 use Rattle.session_file.proofs.work.write_work.Given as goal
 
--- what is written, and the work that is left from this read on
-abbrev pub invariant-loop-i : goal.invariant-loop-i
-invariant-loop-i l =
-    vec_items l.out ++ worked l.commands l.at (drop l.i (reads_of l.report)) ≡ vec_items l.initial.out ++ work_lines l.commands l.report
+-- what is written, and the work that is left from the next read on
+abbrev pub invariant-loop-sum : goal.invariant-loop-sum
+invariant-loop-sum l =
+    string_bytes l.out ++ worked l.commands l.at (take l.sum-iterator.n (zip (iter_rest l.sum-iterator.iter.a) (iter_rest l.sum-iterator.iter.b)))
+    ≡ string_bytes l.initial.out ++ work_lines l.commands l.report
