@@ -12,31 +12,20 @@ fn planner(rt: &HostRuntime) -> Result<Planner<Journal>, Fail> {
         first: 0,
         count: 0,
     };
-    match Journal::new(vec![in rt.alloc(); blank; 2]?, 7, [1 << 40; SLOTS]) {
-        Ok(journal) => match Planner::new(journal, 0, 256) {
-            Ok(planner) => Ok(planner),
-            Err(_) => Err(Fail::new("no planner")),
-        },
-        Err(_) => Err(Fail::new("no journal")),
-    }
+    let Ok(journal) = Journal::new(vec![in rt.alloc(); blank; 2]?, 7, [1 << 40; SLOTS]) else {
+        return Err(Fail::new("no journal"));
+    };
+    Planner::new(journal, 0, 256).map_err(|_| Fail::new("no planner"))
 }
 
 // The number of what declines a call, or 0.
 fn declined(answer: Answer) -> u8 {
-    match answer {
-        Answer::Declined(fault) => fault.refusal.into(),
-        _ => 0,
-    }
+    answer.err().map_or(0, |fault| u8::from(fault.refusal))
 }
 
 // Whether each call is declined by the number beside it.
 fn all_answer(planner: &mut Planner<Journal>, records: &mut Records, calls: &[(Call, u8)]) -> bool {
-    for (call, number) in calls {
-        if declined(planner.perform(*call, records)) != *number {
-            return false;
-        }
-    }
-    true
+    calls.iter().all(|(call, number)| declined(planner.perform(*call, records)) == *number)
 }
 
 fn read(start: u64, end: u64) -> Call {

@@ -27,10 +27,9 @@ fn journal(rt: &HostRuntime) -> Result<Journal, Fail> {
     let mut extents = [0; SLOTS];
     extents[0] = 1 << 40;
     extents[1] = 10;
-    match Journal::new(vec![in rt.alloc(); fill(0, 0, 0); 2]?, 7, extents) {
-        Ok(journal) => Ok(journal),
-        Err(_) => Err(Fail::new("not made")),
-    }
+    Journal::new(vec![in rt.alloc(); fill(0, 0, 0); 2]?, 7, extents).map_err(|_| Fail::new(
+        "not made",
+    ))
 }
 
 // Whether a clear past the extent is declined, and a command past the allowance, and no other.
@@ -89,13 +88,12 @@ fn sums_all_cells_at_once(rt: HostRuntime) -> Result<(), Fail> {
 fn hands_the_records_back(rt: HostRuntime) -> Result<(), Fail> {
     let mut extents = [0; SLOTS];
     extents[23] = (1 << 40) + 1;
-    match Journal::new(vec![in rt.alloc(); fill(0, 0, 0); 3]?, 0, extents) {
-        Ok(_) => Err(Fail::new("made")),
-        Err(unmade) => {
-            assert!(rt; unmade.given.len() == 3 && u8::from(unmade.refusal) == 20);
-            Ok(())
-        },
-    }
+    let Err(unmade) = Journal::new(vec![in rt.alloc(); fill(0, 0, 0); 3]?, 0, extents) else {
+        return Err(Fail::new("made"));
+    };
+    assert_eq!(rt; unmade.given.len(), 3);
+    assert_eq!(rt; u8::from(unmade.refusal), 20);
+    Ok(())
 }
 
 #[test]
@@ -103,11 +101,10 @@ fn both_ends_agree(rt: HostRuntime) -> Result<(), Fail> {
     let mut journal = journal(&rt)?;
     let mut rows = Vec::new(rt.alloc());
     rows.push(vec![in rt.alloc(); 7; 10]?)?;
-    match ByteMemory::new(rows, 3) {
-        Ok(mut memory) => {
-            assert!(rt; sum_after(&mut journal) == 24 && sum_after(&mut memory) == 24);
-            Ok(())
-        },
-        Err(_) => Err(Fail::new("not made")),
-    }
+    let Ok(mut memory) = ByteMemory::new(rows, 3) else {
+        return Err(Fail::new("not made"));
+    };
+    assert_eq!(rt; sum_after(&mut journal), 24);
+    assert_eq!(rt; sum_after(&mut memory), 24);
+    Ok(())
 }

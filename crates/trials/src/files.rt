@@ -48,17 +48,11 @@ fn knows_a_clear_by_its_small_number(rt: HostRuntime) -> Result<(), Fail> {
     assert!(rt; decode_call(&bytes[0..31]).is_none());
     assert!(rt; !unknown(&bytes));
     bytes[3] = 1;
-    match decode_call(&bytes) {
-        Some(
-            Call::ClearBuffer {
-                list: _,
-                resource: _,
-                offset,
-                size: Some(size),
-            },
-        ) => assert!(rt; offset == 4 && size == 1 << 56),
-        _ => return Err(Fail::new("another call")),
-    }
+    let Some(Call::ClearBuffer { offset, size, .. }) = decode_call(&bytes) else {
+        return Err(Fail::new("another call"));
+    };
+    assert_eq!(rt; offset, 4);
+    assert_eq!(rt; size, Some(1 << 56));
     bytes[3] = 2;
     assert!(rt; unknown(&bytes));
     bytes[0] = 2;
