@@ -1,4 +1,3 @@
 pub mod Appends
-pub mod Left
 pub mod Moments
 pub mod Turns

@@ -39,11 +39,10 @@ pub(crate) fn write_work(
     ensures { OnOk result (string_bytes out.new ≡ string_bytes out.old ++ work_lines commands.now report.now) }
 {
     let mut at = 0;
-    let reads = report.reads as usize;
-    for (sum, before) in report.sums.iter().zip(&report.before).take(reads) {
-        write_part(out, commands, at, *before)?;
-        write_line(out, Line::Sum(*sum))?;
-        at = *before;
+    for read in report.sums.iter().take(report.reads as usize) {
+        write_part(out, commands, at, read.before)?;
+        write_line(out, Line::Sum(read.total))?;
+        at = read.before;
     }
     write_part(out, commands, at, commands.len() as u64)
 }
