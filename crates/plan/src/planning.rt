@@ -34,16 +34,13 @@ fn keep_spans(spans: &[Span<u64>], buffer: u8, pieces: &mut Pieces)
 }
 
 // Keeps what a read takes from a book, which is at most the book's 64 ranges.
-fn keep_pieces(book: &BufferInitTracker, buffer: u8, from: u64, to: u64, pieces: &mut Pieces)
+fn keep_pieces(book: &BufferInitTracker, buffer: u8, query: Span<u64>, pieces: &mut Pieces)
     requires { length (kept pieces.old) + 64 ≤ 4096 }
-    ensures held { kept pieces.new ≡ all_placed (kept pieces.old) (map (piece_of buffer) (pieces_of from to (owing book.now))) }
+    ensures held { kept pieces.new ≡ all_placed (kept pieces.old) (map (piece_of buffer) (pieces_of query.start query.end (owing book.now))) }
     ensures few { length (kept pieces.new) ≤ length (kept pieces.old) + 64 }
 {
-    let mut spans = [Span {
-        start: 0u64,
-        end: 0,
-    }; 64];
-    match book.uninitialized(from, to, &mut spans) {
+    let mut spans = [Span::default(); 64];
+    match book.uninitialized(query, &mut spans) {
         Ok(n) => keep_spans(&spans[..n], buffer, pieces),
         Err(_) => unreachable(),
     }
@@ -68,19 +65,16 @@ fn plan_step(
     if n >= buffers.len() {
         return Ok(());
     }
-    let from = step.start();
-    let to = step.cover_end();
+    let cover = Span {
+        start: step.start(),
+        end: step.cover_end(),
+    };
     // By index: of what is written through get_mut no proof learns.
     let buffer = &mut buffers[n];
     if step.looks() {
-        keep_pieces(&buffer.book, number, from, to, pieces);
+        keep_pieces(&buffer.book, number, cover, pieces);
     }
-    buffer.book.drain(from, to).map_err(|refusal| Fault::new(
-        CallKind::Submit,
-        refusal,
-        number,
-        place,
-    ))
+    buffer.book.drain(cover).map_err(|refusal| Fault::new(CallKind::Submit, refusal, number, place))
 }
 
 // Plans the steps in order; a fault names the first after which a book is past its places.

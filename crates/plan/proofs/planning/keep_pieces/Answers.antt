@@ -7,4 +7,4 @@ use Rattle.plan.proofs.planning.keep_pieces.Goals as goal
 pub unreachable-requires : goal.unreachable-requires
 unreachable-requires c =
     let b = c.args.book.now in
-    omega (arith, c.in-Err.ensures.2, pieces_few c.args.from c.args.to (owing b), owing_few b)
+    omega (arith, c.in-Err.ensures.2, pieces_few c.args.query.start c.args.query.end (owing b), owing_few b)
