@@ -4,22 +4,16 @@ ghost use Rattle.device.specs.Journal.{written};
 ghost use Rattle.session_file.specs.Standing.{MadeBy};
 
 use crate::header::Header;
-use device::{Command, CommandKind, Journal, MOST_CELLS, SLOTS};
+use device::{Command, Journal, MOST_CELLS, SLOTS};
 use std::alloc::{AllocError, Global};
 
 // A journal with nothing written, room for the allowance, and every cell at the starting byte.
 pub(crate) fn make_journal(heap: Global, header: Header) -> Result<Journal, AllocError>
     ensures { IfOk result (λ j. MadeBy header j × (written j ≡ [])) }
 {
-    let blank = Command {
-        kind: CommandKind::Clear,
-        slot: 0,
-        first: 0,
-        count: 0,
+    let records = vec![in heap; Command::default(); header.allowance as usize]?;
+    let Ok(journal) = Journal::new(records, header.start, [MOST_CELLS; SLOTS]) else {
+        unreachable()
     };
-    let records = vec![in heap; blank; header.allowance as usize]?;
-    match Journal::new(records, header.start, [MOST_CELLS; SLOTS]) {
-        Ok(journal) => Ok(journal),
-        Err(_) => unreachable(),
-    }
+    Ok(journal)
 }

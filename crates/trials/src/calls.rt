@@ -1,18 +1,16 @@
 // What a planner declines, by number, and what it leaves.
-use device::{Command, CommandKind, Journal, SLOTS};
+use device::{Command, Journal, SLOTS};
 use planner::Planner;
 use rules::{Answer, Call, Records, Report};
 use std::test::Fail;
 
 // A planner over a journal of two records, all of whose cells begin at 7.
 fn planner(rt: &HostRuntime) -> Result<Planner<Journal>, Fail> {
-    let blank = Command {
-        kind: CommandKind::Clear,
-        slot: 0,
-        first: 0,
-        count: 0,
-    };
-    let Ok(journal) = Journal::new(vec![in rt.alloc(); blank; 2]?, 7, [1 << 40; SLOTS]) else {
+    let Ok(journal) = Journal::new(
+        vec![in rt.alloc(); Command::default(); 2]?,
+        7,
+        [1 << 40; SLOTS],
+    ) else {
         return Err(Fail::new("no journal"));
     };
     Planner::new(journal, 0, 256).map_err(|_| Fail::new("no planner"))

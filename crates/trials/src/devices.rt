@@ -27,7 +27,7 @@ fn journal(rt: &HostRuntime) -> Result<Journal, Fail> {
     let mut extents = [0; SLOTS];
     extents[0] = 1 << 40;
     extents[1] = 10;
-    Journal::new(vec![in rt.alloc(); fill(0, 0, 0); 2]?, 7, extents).map_err(|_| Fail::new(
+    Journal::new(vec![in rt.alloc(); Command::default(); 2]?, 7, extents).map_err(|_| Fail::new(
         "not made",
     ))
 }
@@ -88,7 +88,7 @@ fn sums_all_cells_at_once(rt: HostRuntime) -> Result<(), Fail> {
 fn hands_the_records_back(rt: HostRuntime) -> Result<(), Fail> {
     let mut extents = [0; SLOTS];
     extents[23] = (1 << 40) + 1;
-    let Err(unmade) = Journal::new(vec![in rt.alloc(); fill(0, 0, 0); 3]?, 0, extents) else {
+    let Err(unmade) = Journal::new(vec![in rt.alloc(); Command::default(); 3]?, 0, extents) else {
         return Err(Fail::new("made"));
     };
     assert_eq!(rt; unmade.given.len(), 3);
