@@ -7,6 +7,8 @@ pub record RangeLaws : Type 0 where
   pub in_drained : (p lo hi : ℕ) (rs : List (ℕ × ℕ)) → member p (drained lo hi rs) ≡ (member p rs && not (inside lo hi p))
   -- the pieces are exactly the positions of the list inside the query
   pub in_pieces : (p lo hi : ℕ) (rs : List (ℕ × ℕ)) → member p (pieces lo hi rs) ≡ (member p rs && inside lo hi p)
+  -- so no piece of a query is left after its drain
+  pub none_left : (lo hi : ℕ) (rs : List (ℕ × ℕ)) → pieces lo hi (drained lo hi rs) ≡ []
   -- a discard adds that one position
   pub in_discarded : (p q n : ℕ) (rs : List (ℕ × ℕ)) → Sound n rs → member p (discarded q rs) ≡ (member p rs || p == q)
   -- a check covers every position of the list inside the query

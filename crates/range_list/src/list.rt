@@ -9,7 +9,7 @@ use crate::span::Span;
 use fault::Refusal;
 use index::Index;
 
-// A slice and a count, since the places are the caller's. A call keeps the same places lent, its clause `places`, so that the lender learns what they hold in the end.
+// A slice and a count, since the places are the caller's; that what they hold is sound is asked by each call that rests on it. A call keeps the same places lent, its clause `places`, so that the lender learns what they hold in the end.
 #[derive(Drop)]
 pub struct InitTracker<'a, I> {
     pub(crate) places: &'a mut [Span<I>],
