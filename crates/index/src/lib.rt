@@ -69,7 +69,8 @@ impl Stepping for u32 {
     }
 }
 
-// The one of two indexes that stands later.
+// The one of two indexes that stands later. This, the next two and `before` are the library's, named for what they say
+// of positions.
 pub fn later<I: Index>(a: I, b: I) -> I
     ensures { I.Index.position result ≡ max (I.Index.position a) (I.Index.position b) }
 {

@@ -17,6 +17,8 @@ pub const BUFFERS: usize = 16;
 // How many lists there are.
 pub const LISTS: usize = 4;
 
+// Each call that commands nothing says by a clause of its own that the device stays: no fact of the type could say it.
+#[derive(Drop)]
 pub struct Planner<D: Device> {
     device: D,
     // By number; `made` numbers are given out, and none comes back.

@@ -9,7 +9,8 @@ ghost use Rattle.plan.specs.Views.{view_buffer};
 use fault::{ClearError, Refusal};
 use plan::{Buffer, MOST_STEPS};
 
-// Whether a list with so many steps has no place for a use of this range; an empty one needs none.
+// Whether a list with so many steps has no place for a use of this range; an empty one needs none. Here and below a
+// start and an end come as two numbers, and not as one range: they are judged before they may be one.
 fn is_full(held: usize, start: u64, end: u64) -> bool
     ensures { result ≡ no_place held start end }
 {

@@ -14,6 +14,7 @@ struct Fields {
     operation: u8,
     list: u8,
     resource: u8,
+    // As the file has it: each operation reads it in its own way.
     small: u8,
     x: u64,
     y: u64,

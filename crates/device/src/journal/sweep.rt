@@ -49,6 +49,7 @@ impl SlotCells<'_> {
     {
         let mut sum = 0;
         let mut at = first;
+        // No index is counted here: a turn goes on to the next boundary.
         while at < end {
             let value = self.value_at(at);
             let next = self.next_change(at, end);

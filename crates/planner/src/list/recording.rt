@@ -40,6 +40,7 @@ fn decide(state: &mut ListState, c: ListCall) -> Result<(), Refusal>
 // Holds a list's state while a step is under way: at its end a recording list is broken, unless the step finished.
 struct StepGuard<'a> {
     state: &'a mut ListState,
+    // A flag that no value stands beside: the drop reads it, whatever the way out.
     finished: bool,
 }
 
