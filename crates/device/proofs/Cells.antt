@@ -1,6 +1,6 @@
 -- What runs of commands do to cells: run after run, on equal cells, and one command more.
-use Rattle.std.proofs.Common.{◌≡◌, ℕ, ◌+◌, ◌<◌, ◌≤◌, cond, List, [], ◌∷◌, ◌++◌, length, get_or, take, refl, ap, ◌∙◌}
-use Rattle.std.proofs.lemmas.List.{take_all, take_more}
+use Rattle.std.proofs.Common.{◌≡◌, ℕ, ◌+◌, ◌<◌, cond, List, [], ◌∷◌, ◌++◌, length, get_or, take, refl, ap, ◌∙◌}
+use Rattle.std.proofs.lemmas.List.{take_more}
 use Rattle.device.specs.Commands.{byte_of, covers, painted}
 use Rattle.device.specs.Meaning.{ran}
 use Rattle.device.specs.declared.command.Command.{Command}
@@ -36,7 +36,3 @@ painted_alike f c s i j h e =
 pub ran_more : (f : ℕ → ℕ → ℕ) (cs : List Command) (k : ℕ) (d : Command) → k < length cs → (s i : ℕ) → ran f (take (k + 1) cs) s i ≡ painted (ran f (take k cs)) (get_or cs k d) s i
 ran_more f cs k d h s i =
     ap (λ (xs : List Command). ran f xs s i) (take_more cs k d h) ∙ ran_push f (take k cs) (get_or cs k d) s i
-
--- past the last record all have painted
-pub ran_all : (f : ℕ → ℕ → ℕ) (cs : List Command) (k : ℕ) → length cs ≤ k → (s i : ℕ) → ran f (take k cs) s i ≡ ran f cs s i
-ran_all f cs k h s i = ap (λ (xs : List Command). ran f xs s i) (take_all k cs h)

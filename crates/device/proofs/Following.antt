@@ -1,15 +1,11 @@
 -- One command more after a list of commands: taken, it belongs to the list; declined, nothing has changed.
-use Rattle.std.proofs.Common.{◌≡◌, ℕ, ◌+◌, ◌<◌, true, false, ◌&&◌, ◌||◌, eqb, ltb, leb, List, [], ◌∷◌, ◌++◌, sym, refl, ap, ◌∙◌, arith}
+use Rattle.std.proofs.Common.{◌≡◌, ◌<◌, true, ltb, List, [], ◌∷◌, ◌++◌, sym, ◌∙◌, arith}
 use Rattle.std.proofs.lemmas.List.{length_push}
 use Rattle.std.proofs.lemmas.Bool.{ltb-true, and_parts}
 use Rattle.device.specs.Commands.{fits_in}
 use Rattle.device.specs.Meaning.{Followed, Meaning, Took, allowed, ran}
 use Rattle.device.specs.declared.command.Command.{Command}
 use Rattle.device.proofs.Cells.{painted_same, ran_push}
-
--- no commands leave all as it was
-pub followed_none : (m : Meaning) → Followed m [] m
-followed_none m = record { cells = λ s i. refl; extents = λ s. refl; spent = omega arith }
 
 -- a taken command joins the list
 pub followed_more : (m n o : Meaning) (cs : List Command) (c : Command) → Followed m cs n → true ≡ allowed n c → Took n c true o → Followed m (cs ++ (c ∷ [])) o
@@ -20,19 +16,3 @@ followed_more m n o cs c so may took =
       extents = λ s. took.extents s ∙ so.extents s;
       spent = omega (arith, length_push cs c, took.spent, so.spent);
     }
-
--- a declined command leaves the list as it was
-pub followed_still : (m n o : Meaning) (cs : List Command) (c : Command) → Followed m cs n → Took n c false o → Followed m cs o
-followed_still m n o cs c so took =
-    record {
-      cells = λ s i. took.cells s i ∙ so.cells s i;
-      extents = λ s. took.extents s ∙ so.extents s;
-      spent = omega (arith, took.spent, so.spent);
-    }
-
--- and is declined still
-pub declined_still : (n o : Meaning) (c : Command) → Took n c false o → false ≡ allowed n c → allowed o c ≡ false
-declined_still n o c took not =
-    ap (λ (a : ℕ). ltb 0 a && fits_in o.extent c) took.spent
-    ∙ ap (λ (e : ℕ). ltb 0 n.allowance && (eqb c.count 0 || leb (c.first + c.count) e)) (took.extents c.slot)
-    ∙ sym not

@@ -26,6 +26,7 @@ fn since(written: &[Command], before: usize) -> &[Command]
 }
 
 // A planner over a journal, the memory that its calls fill, and the listing so far.
+#[derive(Drop)]
 struct Session {
     planner: Planner<Journal>,
     records: Records,
@@ -86,13 +87,7 @@ pub fn run(heap: Global, input: &[u8]) -> Result<String, AllocError>
         },
         listing,
     };
-    let ran = session.run(header, &input[header.offset as usize..]);
-    let Session {
-        planner,
-        records: _,
-        listing,
-    } = session;
-    let _ = planner.into_device();
-    ran?;
+    session.run(header, &input[header.offset as usize..])?;
+    let Session { listing, .. } = session;
     Ok(listing)
 }
