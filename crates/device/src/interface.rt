@@ -18,7 +18,7 @@ pub trait Device {
     // What a device keeps of the commands that it took between two moments; it need keep nothing.
     ghost keeps: { Self → List Step → Self → Type 0 };
 
-    // Takes one command, or declines it and changes nothing.
+    // Takes one command, or declines it and changes nothing. A bool: its answer is the rule `allowed` itself.
     fn take(&mut self, c: Command) -> bool
         ensures answer { result ≡ allowed (meaning self.old) c }
         ensures took { Took (meaning self.old) c result (meaning self.new) }
@@ -32,8 +32,8 @@ pub trait Device {
     fn allowance(&self) -> u64
         ensures { result ≡ (meaning self.now).allowance };
 
-    // The sum of the bytes of a range, or 0 where the range passes the slot's extent. The range comes as three numbers: a
-    // struct of them would be made for this call and taken apart in it.
+    // The sum of the bytes of a range, or 0, as the rules say, where the range passes the slot's extent. The range comes
+    // as three numbers: a struct of them would be made for this call and taken apart in it.
     fn total(&self, slot: u8, first: u64, count: u64) -> u64
         ensures { result ≡ total_of (meaning self.now) slot first count };
 

@@ -8,57 +8,57 @@ use crate::CallKind;
 #[derive(Clone, Copy, Debug, PartialEq, Eq)]
 pub enum Refusal {
     // A number or a call is unknown, or the number is of the other kind of resource.
-    Unknown,
+    Unknown = 1,
     // The list's state does not allow the call.
-    WrongState,
+    WrongState = 2,
     // The list is in debt.
-    InDebt,
+    InDebt = 3,
     // The resource is destroyed.
-    Destroyed,
+    Destroyed = 4,
     // The buffer has no copy usage.
-    NoCopyUsage,
+    NoCopyUsage = 5,
     // A start or an offset is not a multiple of 4.
-    UnalignedStart,
+    UnalignedStart = 6,
     // The size of a clear or the end of a write is not a multiple of 4.
-    UnalignedEnd,
+    UnalignedEnd = 7,
     // An offset plus a size passes 64 bits.
-    AddressOverflow,
+    AddressOverflow = 8,
     // An end is past the buffer's size.
-    PastBuffer,
+    PastBuffer = 9,
     // A start is above its end.
-    Backward,
+    Backward = 10,
     // The texture lacks the aspect, or there is no such aspect.
-    MissingAspect,
+    MissingAspect = 11,
     // Mips past the texture.
-    PastMips,
+    PastMips = 12,
     // Layers past the texture.
-    PastLayers,
+    PastLayers = 13,
     // No write or settled read of the list covers the surface since its last discard there.
-    DiscardNotCovered,
+    DiscardNotCovered = 14,
     // The texture can't be cleared.
-    NoClearMode,
+    NoClearMode = 15,
     // The list holds 64 steps already.
-    ListFull,
+    ListFull = 16,
     // Ranges or pieces past their places.
-    PlacesFull,
+    PlacesFull = 17,
     // The allowance is under the commands needed.
-    AllowanceShort,
+    AllowanceShort = 18,
     // No number is free.
-    NoNumberFree,
+    NoNumberFree = 19,
     // A description, a pitch or an extent is not as it must be.
-    BadDescription,
+    BadDescription = 20,
     // The mark or the list is not the debt's, or the list is not in debt.
-    NotThisDebt,
+    NotThisDebt = 21,
 }
 
 // The part of the planner that declines.
 #[derive(Clone, Copy, Debug, PartialEq, Eq)]
 pub enum Part {
-    RangeList,
-    Clear,
-    List,
-    Submission,
-    Making,
+    RangeList = 1,
+    Clear = 2,
+    List = 3,
+    Submission = 4,
+    Making = 5,
 }
 
 // The part's number, 1 to 5.
@@ -66,13 +66,7 @@ impl From<Part> for u8 {
     ghost from_gives = { λ part number. number ≡ part_number part };
 
     fn from(part: Part) -> u8 {
-        match part {
-            Part::RangeList => 1,
-            Part::Clear => 2,
-            Part::List => 3,
-            Part::Submission => 4,
-            Part::Making => 5,
-        }
+        part as u8
     }
 }
 
@@ -81,29 +75,7 @@ impl From<Refusal> for u8 {
     ghost from_gives = { λ refusal number. number ≡ number_of refusal };
 
     fn from(refusal: Refusal) -> u8 {
-        match refusal {
-            Refusal::Unknown => 1,
-            Refusal::WrongState => 2,
-            Refusal::InDebt => 3,
-            Refusal::Destroyed => 4,
-            Refusal::NoCopyUsage => 5,
-            Refusal::UnalignedStart => 6,
-            Refusal::UnalignedEnd => 7,
-            Refusal::AddressOverflow => 8,
-            Refusal::PastBuffer => 9,
-            Refusal::Backward => 10,
-            Refusal::MissingAspect => 11,
-            Refusal::PastMips => 12,
-            Refusal::PastLayers => 13,
-            Refusal::DiscardNotCovered => 14,
-            Refusal::NoClearMode => 15,
-            Refusal::ListFull => 16,
-            Refusal::PlacesFull => 17,
-            Refusal::AllowanceShort => 18,
-            Refusal::NoNumberFree => 19,
-            Refusal::BadDescription => 20,
-            Refusal::NotThisDebt => 21,
-        }
+        refusal as u8
     }
 }
 

@@ -47,15 +47,14 @@ module _ {I : Type 0} {N : ℕ} {g o e p : _} (b : Book I N g o e p) where
       d.full d.fits d.sound
 
 -- a drain or a discard of a book of at most 64 layers is never short of 32 places
-never_short : (n : ℕ) (ss : List (ℕ × ℕ)) (e : Refusal) → n ≤ 64 → Sound n ss → Err e ≡ fitting 32 ss → ⊥
-never_short n ss e le h w =
+never_short : (n : ℕ) (ss : List (ℕ × ℕ)) → n ≤ 64 → Sound n ss → fitting 32 ss ≡ Ok tt
+never_short n ss le h =
     let few = few_ranges n ss h in
-    let z : ◌≡◌ {A = Result (Unit {0}) Refusal} (Err e) (Ok tt) = w ∙ cond-false (ltb 32 (length ss)) (Err PlacesFull) (Ok tt) (le-ltb 32 (length ss) (omega arith)) in
-    grind (arith, z)
+    cond-false (ltb 32 (length ss)) (Err PlacesFull) (Ok tt) (le-ltb 32 (length ss) (omega arith))
 
-module _ (t : LayerInitTracker) (e : Refusal) where
-  pub drain_fits : (a b : ℕ) → Err e ≡ fitting 32 (drained a b (owing_layers t)) → ⊥
-  drain_fits a b w = never_short t.book.size _ e t.few (sound_drained a b t.book.size (owing_layers t) (held_sound t.book)) w
+module _ (t : LayerInitTracker) where
+  pub drain_fits : (a b : ℕ) → fitting 32 (drained a b (owing_layers t)) ≡ Ok tt
+  drain_fits a b = never_short t.book.size _ t.few (sound_drained a b t.book.size (owing_layers t) (held_sound t.book))
 
-  pub discard_fits : (a : ℕ) → Err e ≡ fitting 32 (added a t.book.size (owing_layers t)) → ⊥
-  discard_fits a w = never_short t.book.size _ e t.few (sound_added a t.book.size (owing_layers t) (held_sound t.book)) w
+  pub discard_fits : (a : ℕ) → fitting 32 (added a t.book.size (owing_layers t)) ≡ Ok tt
+  discard_fits a = never_short t.book.size _ t.few (sound_added a t.book.size (owing_layers t) (held_sound t.book))

@@ -58,10 +58,7 @@ impl LayerInitTracker {
         ensures after { owing_layers self.new ≡ drained query.start query.end (owing_layers self.old) }
         ensures layers { self.new.book.size ≡ self.old.book.size }
     {
-        match self.book.drain(query) {
-            Ok(()) => (),
-            Err(_) => unreachable(),
-        }
+        self.book.drain(query).unwrap();
     }
 
     // Puts a layer back into the list; one that there is not changes nothing.
@@ -69,9 +66,6 @@ impl LayerInitTracker {
         ensures after { owing_layers self.new ≡ added layer self.old.book.size (owing_layers self.old) }
         ensures layers { self.new.book.size ≡ self.old.book.size }
     {
-        match self.book.discard(layer) {
-            Ok(()) => (),
-            Err(_) => unreachable(),
-        }
+        self.book.discard(layer).unwrap();
     }
 }

@@ -40,10 +40,8 @@ fn keep_pieces(book: &BufferInitTracker, buffer: u8, query: Span<u64>, pieces: &
     ensures few { length (kept pieces.new) ≤ length (kept pieces.old) + 64 }
 {
     let mut spans = [Span::default(); 64];
-    match book.uninitialized(query, &mut spans) {
-        Ok(n) => keep_spans(&spans[..n], buffer, pieces),
-        Err(_) => unreachable(),
-    }
+    let count = book.uninitialized(query, &mut spans).unwrap();
+    keep_spans(&spans[..count], buffer, pieces);
 }
 
 // Drains the book of the step's buffer, and keeps what the step takes if it looks; a fault names the step by its place.

@@ -14,6 +14,9 @@ mod submitting;
 // How many buffers there are numbers for.
 pub const BUFFERS: usize = 16;
 
+// The largest pitch.
+const MOST_PITCH: u32 = 256;
+
 // How many lists there are.
 pub const LISTS: usize = 4;
 

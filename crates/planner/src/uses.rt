@@ -35,7 +35,7 @@ pub(crate) fn check_read(buffer: &Buffer, start: u64, end: u64, held: usize) -> 
 {
     tried(&[
         (!buffer.standing, Refusal::Destroyed),
-        (start % 4 != 0, Refusal::UnalignedStart),
+        (!start.is_multiple_of(4), Refusal::UnalignedStart),
         (end > buffer.size, Refusal::PastBuffer),
         (start > end, Refusal::Backward),
         (is_full(held, start, end), Refusal::ListFull),
@@ -48,8 +48,8 @@ pub(crate) fn check_write(buffer: &Buffer, start: u64, end: u64, held: usize) ->
 {
     tried(&[
         (!buffer.standing, Refusal::Destroyed),
-        (start % 4 != 0, Refusal::UnalignedStart),
-        (end % 4 != 0, Refusal::UnalignedEnd),
+        (!start.is_multiple_of(4), Refusal::UnalignedStart),
+        (!end.is_multiple_of(4), Refusal::UnalignedEnd),
         (end > buffer.size, Refusal::PastBuffer),
         (start > end, Refusal::Backward),
         (is_full(held, start, end), Refusal::ListFull),
@@ -63,11 +63,11 @@ fn clear_end(buffer: &Buffer, offset: u64, size: Option<u64>) -> Result<u64, Cle
     if !buffer.copy {
         return Err(ClearError::MissingBufferUsage);
     }
-    if offset % 4 != 0 {
+    if !offset.is_multiple_of(4) {
         return Err(ClearError::UnalignedBufferOffset(offset));
     }
     let count = size.unwrap_or(buffer.size.saturating_sub(offset));
-    if count % 4 != 0 {
+    if !count.is_multiple_of(4) {
         return Err(ClearError::UnalignedFillSize(count));
     }
     let Some(end) = offset.checked_add(count) else {

@@ -1,4 +1,5 @@
-// A list of layers beside the set of positions that it should owe.
+// A list of layers beside the set of positions that it should owe. Apart from the trial of a book: a list has no pieces,
+// and only a book can decline a drain, so one function over both would have more cases than these two.
 use crate::sets::{between, checked, has, low, only, runs, single, those};
 use crate::tally::Tally;
 use init_tracker::LayerInitTracker;

@@ -41,6 +41,6 @@ pub enum Call {
     Submit {
         list: u8,
     },
-    // A call that there is not.
+    // A call that there is not; it is one all the same, and is declined by 1.
     Unknown,
 }

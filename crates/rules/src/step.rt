@@ -103,7 +103,7 @@ impl Step {
     }
 }
 
-// What a place holds that holds no step.
+// What a place holds that holds no step. By hand: a derive needs a case without fields.
 impl Default for Step {
     ghost is_default = { λ step. step ≡ BufferRead 0 0 0 };
 

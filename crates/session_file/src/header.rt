@@ -44,7 +44,7 @@ pub fn read_header(input: &[u8]) -> Option<Header>
     if header.offset < BYTES || header.offset as usize > input.len() {
         return None;
     }
-    if header.allowance > MOST_ALLOWANCE || header.pitch == 0 || header.pitch > MOST_PITCH {
+    if header.allowance > MOST_ALLOWANCE || !(1..=MOST_PITCH).contains(&header.pitch) {
         return None;
     }
     Some(header)

@@ -2,7 +2,7 @@
 ghost use Rattle.std.specs.Prelude.{◌≡◌, ◌+◌, ◌≤◌, length};
 ghost use Rattle.session_file.specs.Words.{long, word};
 
-// The 32-bit number at a place.
+// The 32-bit number at a place. The library has no trait of both widths, so each has a line of its own.
 pub(crate) fn word_at(bytes: &[u8], i: usize) -> u32
     requires { i + 4 ≤ length bytes.now }
     ensures { result ≡ word bytes.now i }

@@ -16,7 +16,7 @@ fn planner(rt: &HostRuntime) -> Result<Planner<Journal>, Fail> {
     Planner::new(journal, 0, 256).map_err(|_| Fail::new("no planner"))
 }
 
-// The number of what declines a call, or 0.
+// The number of what declines a call, or 0; the tables below read plainest as numbers.
 fn declined(answer: Answer) -> u8 {
     answer.err().map_or(0, |fault| u8::from(fault.refusal))
 }

@@ -8,7 +8,7 @@ ghost use Rattle.planner.specs.View.{view};
 ghost use Rattle.planner.specs.Made.{pitched, Fresh};
 
 use crate::list::CommandList;
-use crate::planner::{BUFFERS, LISTS, Planner};
+use crate::planner::{BUFFERS, LISTS, MOST_PITCH, Planner};
 use device::Device;
 use fault::{CallKind, Fault, NO_PLACE, Refusal, Unmade};
 use init_tracker::BufferInitTracker;
@@ -41,7 +41,7 @@ impl<D: Device> Planner<D> {
         ensures answer { is_ok result ≡ pitched pitch }
         ensures made { MatchResult result (Fresh device mark pitch) (Returned device) }
     {
-        if pitch == 0 || pitch > 256 {
+        if !(1..=MOST_PITCH).contains(&pitch) {
             return Err(Unmade {
                 refusal: Refusal::BadDescription,
                 given: device,
@@ -89,7 +89,8 @@ impl<D: Device> Planner<D> {
             .unwrap_or_else(no_buffer)
     }
 
-    // A new buffer, of which every cell owes: its number, or why there is none.
+    // A new buffer, of which every cell owes: its number, or why there is none. The flag comes as a number: the rules
+    // decline one that is neither 0 nor 1.
     pub fn make_buffer(&mut self, size: u64, copy: u8) -> Result<u8, Fault>
         ensures answer { result ≡ make_answer (view self.old) (D.Device.meaning self.old.device).extent size copy }
         ensures after { view self.new ≡ make_after (view self.old) (D.Device.meaning self.old.device).extent size copy }

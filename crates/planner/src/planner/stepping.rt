@@ -53,7 +53,8 @@ impl<D: Device> Planner<D> {
             .map_err(|refusal| Fault::new(call, refusal, resource, place as u8))
     }
 
-    // A read of a buffer's bytes from start up to end.
+    // A read of a buffer's bytes from start up to end. This call and the next two take their arguments as they come: a
+    // struct of them would be a `Call` again.
     pub fn buffer_read(&mut self, list: u8, resource: u8, start: u64, end: u64) -> Result<(), Fault>
         ensures answer { result ≡ step_answer kind.BufferRead (view self.old) list resource (read_causes start end) }
         ensures after { view self.new ≡ step_after (view self.old) list resource (read_causes start end) start end (recorded.BufferRead resource start end) }

@@ -14,7 +14,6 @@ use device::Device;
 use fault::{CallKind, Fault, Refusal};
 use plan::submit_steps;
 use rules::Report;
-use std::mem;
 
 impl<D: Device> Planner<D> {
     // Declines a list that there is not, or that is not closed.
@@ -39,12 +38,14 @@ impl<D: Device> Planner<D> {
     {
         self.check_list(list)?;
         let l = usize::from(list);
-        // Taken out, since the check lends no list beside the device behind `self`; put back where it is declined.
-        let list = mem::replace(&mut self.lists[l], CommandList::new());
-        let answer = submit_steps(&mut self.device, &mut self.buffers, list.recorded(), report);
-        if answer.is_err() {
-            self.lists[l] = list;
-        }
-        answer
+        let Planner {
+            device,
+            buffers,
+            lists,
+            ..
+        } = self;
+        submit_steps(device, buffers, lists[l].recorded(), report)?;
+        lists[l] = CommandList::new();
+        Ok(())
     }
 }

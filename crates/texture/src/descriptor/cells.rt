@@ -63,12 +63,8 @@ impl TextureDescriptor {
         ensures answer { result ≡ first_in (shape_of self) mip layer }
         ensures within { IfSome result (λ first. first + surface_cells (shape_of self) mip ≤ 1099511627776) }
     {
-        // An if: a sum of products in the closure of a `then` reads no better.
-        if self.has_surface(mip, layer) {
-            Some(self.mip_first(mip) + u64::from(layer) * self.surface_cells(mip))
-        } else {
-            None
-        }
+        self.has_surface(mip, layer)
+            .then(|| self.mip_first(mip) + u64::from(layer) * self.surface_cells(mip))
     }
 
     // The first cell of a mip, or the end of the last.
