@@ -41,7 +41,8 @@ impl Command {
         self.slot == slot && self.first <= cell && cell - self.first < self.count
     }
 
-    // Whether the command stays within a slot of this extent.
+    // Whether the command stays within a slot of this extent. The test is one line, here, in both totals and over a step: a
+    // function of three bare numbers would say no more.
     pub fn fits(self, extent: u64) -> bool
         ensures { result ≡ fits_in (λ _. extent) self }
     {

@@ -1,5 +1,6 @@
 // The device under the planner: what a command does to memory, the trait of all that takes commands,
 // and two that do, a journal and bytes in memory.
+// A cast by `as` goes between `usize` and another number, or to fewer bits, where there is no `From`; none loses anything.
 #![tactic(auto)]
 
 mod byte_memory;

@@ -1,4 +1,5 @@
 // Why a call is declined: one case for each cause, the part of the planner that declines, and what the fault names.
+// A case becomes its number by `as`, the one form there is for a discriminant.
 #![tactic(auto)]
 
 ghost use Rattle.std.specs.Prelude.{◌≡◌};

@@ -1,11 +1,10 @@
 -- A book's ranges, seen through the range list that stands over its places.
-use Rattle.std.proofs.Common.{◌≡◌, ℕ, ◌≤◌, ltb, List, length, take, Ok, Err, Result, ◌∙◌, subst, arith}
+use Rattle.std.proofs.Common.{◌≡◌, ℕ, ◌≤◌, ltb, List, length, take, Ok, Err, ◌∙◌, subst, arith}
 use mathlib.Core.Logic.{∥∥₁_prop}
 use native.Mathlib.Bridge.{le_prop}
 use native.Mathlib.Nat.{ℕ_set}
 use Rattle.std.proofs.lemmas.Bool.{cond-false, le-ltb}
 use Rattle.std.proofs.lemmas.List.{length-map, length-take-le}
-use Rattle.fault.specs.declared.refusal.Refusal.{Refusal}
 use Rattle.fault.specs.declared.refusal.Refusal.TheVariants.{PlacesFull}
 use Rattle.range_list.specs.declared.span.Span.{Span}
 use Rattle.range_list.specs.Ranges.{Sound, added, drained}

@@ -1,4 +1,5 @@
 // Which clears the steps of a list can't be spared, found before the first command, and the commands of a submission.
+// A cast by `as` goes between `usize` and another number, or to fewer bits, where there is no `From`; none loses anything.
 #![tactic(auto)]
 
 mod buffer;

@@ -38,7 +38,7 @@ fn note_sum(report: &mut Report, sum: u64, done: u64)
     requires { report.old.reads < 64 }
     ensures { report.new ≡ noted report.old sum done }
 {
-    // By index: the caller hands the places in, and those past the sums stay as they were.
+    // By index: of what is written through get_mut no proof learns.
     report.sums[report.reads as usize] = ReadSum {
         total: sum,
         before: done,

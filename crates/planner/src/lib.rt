@@ -1,4 +1,5 @@
 // The planner: buffers with their books, lists of steps, and every call on them.
+// A cast by `as` goes between `usize` and another number, or to fewer bits, where there is no `From`; none loses anything.
 #![tactic(auto)]
 
 mod list;

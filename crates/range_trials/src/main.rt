@@ -1,4 +1,5 @@
 // Tries every range list of up to 6 positions, as a buffer's book and as a list of layers, against a plain set of positions.
+// A cast by `as` goes between `usize` and another number, or to fewer bits, where there is no `From`; none loses anything.
 #![tactic(auto)]
 
 mod buffers;

@@ -1,4 +1,5 @@
 // Session files: reading one, call by call, and writing its listing.
+// A cast by `as` goes between `usize` and another number, or to fewer bits, where there is no `From`; none loses anything.
 #![tactic(auto)]
 
 mod decode;

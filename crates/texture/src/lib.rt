@@ -1,4 +1,5 @@
 // Textures: what may be made, where its cells lie, and in which runs a surface is cleared.
+// A cast by `as` goes between `usize` and another number, or to fewer bits, where there is no `From`; none loses anything.
 #![tactic(auto)]
 
 mod alignment;

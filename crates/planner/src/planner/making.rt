@@ -68,14 +68,7 @@ impl<D: Device> Planner<D> {
     pub fn into_device(self) -> D
         ensures { result ≡ self.device }
     {
-        let Planner {
-            device,
-            buffers: _,
-            made: _,
-            lists: _,
-            mark: _,
-            pitch: _,
-        } = self;
+        let Planner { device, .. } = self;
         device
     }
 
@@ -107,6 +100,7 @@ impl<D: Device> Planner<D> {
         if self.device.extent(n as u8) < cells {
             return Err(Fault::of_call(CallKind::MakeBuffer, Refusal::BadDescription));
         }
+        // By index: of what is written through get_mut no proof learns.
         self.buffers[n] = Buffer {
             book: BufferInitTracker::new(cells),
             size,
@@ -127,13 +121,11 @@ impl<D: Device> Planner<D> {
         if n >= self.made {
             return Err(Fault::of_call(CallKind::Destroy, Refusal::Unknown));
         }
-        // Copied out and back: the check makes no borrow of an element's field behind `self`.
-        let mut buffer = self.buffers[n];
-        if !buffer.standing {
+        if !self.buffers[n].standing {
             return Err(Fault::new(CallKind::Destroy, Refusal::Destroyed, resource, NO_PLACE));
         }
-        buffer.standing = false;
-        self.buffers[n] = buffer;
+        let Planner { buffers, .. } = self;
+        buffers[n].standing = false;
         Ok(())
     }
 }

@@ -50,7 +50,7 @@ impl TextureDescriptor {
         self.mip_first(self.shape.mips)
     }
 
-    // Whether the texture has a surface of that mip and layer.
+    // Whether the texture has a surface of that mip and layer, two numbers here and below: a caller has them apart.
     pub fn has_surface(self, mip: u32, layer: u32) -> bool
         ensures { result ≡ is_surface (shape_of self) mip layer }
     {
@@ -63,8 +63,8 @@ impl TextureDescriptor {
         ensures answer { result ≡ first_in (shape_of self) mip layer }
         ensures within { IfSome result (λ first. first + surface_cells (shape_of self) mip ≤ 1099511627776) }
     {
-        self.has_surface(mip, layer)
-            .then(|| self.mip_first(mip) + u64::from(layer) * self.surface_cells(mip))
+        self.has_surface(mip, layer).then(|| self.mip_first(mip)
+            + u64::from(layer) * self.surface_cells(mip))
     }
 
     // The first cell of a mip, or the end of the last.

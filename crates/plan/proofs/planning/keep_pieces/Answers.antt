@@ -1,4 +1,4 @@
-use Rattle.std.proofs.Common.{length, is_ok, Ok, Err, Result, true, ◌≡◌, refl, arith}
+use Rattle.std.proofs.Common.{is_ok, Ok, Err, Result, true, ◌≡◌, refl, arith}
 use Rattle.std.specs.Prelude.{MatchResult}
 use Rattle.init_tracker.specs.Books.{owing}
 use Rattle.init_tracker.proofs.Owed.{owing_few}

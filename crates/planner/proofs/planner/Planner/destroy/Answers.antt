@@ -14,7 +14,7 @@ returns-clause-after g c =
     let st = view p in
     let n = c.from-n.result in
     let d = c.index-self-n.result in
-    let v = destroy_is st p.buffers refl n d (omega arith) (omega arith) ∙ cond-false (not (get_or p.buffers n d).standing) (Err Destroyed) (Ok tt) c.if-not-buffer.false in
-    buffer_put st p.buffers refl n st.made _ (destroyed_buffer (buffer_at st n)) (ap destroyed_buffer (sym (buffer_at_lem st p.buffers refl n d (omega arith))))
+    let v = destroy_is st p.buffers refl n d (omega arith) (omega arith) ∙ cond-false (not (get_or p.buffers n d).standing) (Err Destroyed) (Ok tt) (ap not c.if-not-self-n.false) in
+    buffer_put st p.buffers refl n st.made _ (destroyed_buffer (buffer_at st n)) (ap destroyed_buffer (sym (buffer_at_lem st p.buffers refl n c.index-buffers-n.result (omega arith))))
     ∙ sym (cond-true (accepts (destroy_verdict st n)) _ st (ap accepts v))
     ∙ ap (destroy_after st) c.from-n.ensures
