@@ -6,6 +6,7 @@ ghost use Rattle.rules.specs.declared.step.Step.TheVariants.{BufferRead};
 
 use device::{Command, CommandKind};
 
+// Three fields recur, but for its kind they are the whole of a step: a struct of them would stand in each case.
 #[derive(Clone, Copy, Debug, PartialEq, Eq)]
 pub enum Step {
     BufferRead {

@@ -10,7 +10,7 @@ const BYTES: u32 = 20;
 // The most commands that a session's device takes.
 const MOST_ALLOWANCE: u32 = 1024;
 
-// The largest pitch.
+// The largest pitch. A planner tests it again: each is judged on its own, with an answer of its own.
 const MOST_PITCH: u32 = 256;
 
 #[derive(Clone, Copy, Debug, PartialEq, Eq)]
