@@ -12,8 +12,5 @@ pub(crate) fn make_journal(heap: Global, header: Header) -> Result<Journal, Allo
     ensures { IfOk result (λ j. MadeBy header j × (written j ≡ [])) }
 {
     let records = vec![in heap; Command::default(); header.allowance as usize]?;
-    let Ok(journal) = Journal::new(records, header.start, [MOST_CELLS; SLOTS]) else {
-        unreachable()
-    };
-    Ok(journal)
+    Ok(Journal::new(records, header.start, [MOST_CELLS; SLOTS]).unwrap())
 }

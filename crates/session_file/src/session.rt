@@ -77,9 +77,7 @@ pub fn run(heap: Global, input: &[u8]) -> Result<String, AllocError>
         return Ok(listing);
     };
     let journal = make_journal(heap, header)?;
-    let Ok(planner) = Planner::new(journal, MARK, header.pitch) else {
-        unreachable()
-    };
+    let planner = Planner::new(journal, MARK, header.pitch).unwrap();
     let mut session = Session {
         planner,
         records: Records {
