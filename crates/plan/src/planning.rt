@@ -33,8 +33,8 @@ fn keep_spans(spans: &[Span<u64>], buffer: u8, pieces: &mut Pieces)
     }
 }
 
-// Keeps what a read takes from a book, which is at most the book's 64 ranges. An array and a count: they are written to
-// memory of the caller, here this one.
+// Keeps what a read takes from a book, which is at most the book's 64 ranges. An array and a count: the pieces are
+// written to memory of the caller, which is this function.
 fn keep_pieces(book: &BufferInitTracker, buffer: u8, query: Span<u64>, pieces: &mut Pieces)
     requires { length (kept pieces.old) + 64 ≤ 4096 }
     ensures held { kept pieces.new ≡ all_placed (kept pieces.old) (map (piece_of buffer) (pieces_of query.start query.end (owing book.now))) }

@@ -45,7 +45,7 @@ impl Steps {
         self.steps.len()
     }
 
-    // One step more, which ends within the greatest buffer.
+    // One step more, which ends within the greatest buffer: asked here, where it becomes a fact of the list.
     #[tactic(auto, using(crate::proofs::Small::small_push))]
     pub fn push(&mut self, step: Step)
         requires room { length self.old < 64 }

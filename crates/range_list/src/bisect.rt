@@ -1,4 +1,5 @@
-// Which ranges of a list a query meets, found by bisection.
+// Which ranges of a list a query meets, found by bisection. That the ranges are sound is a premise of each search: a slice
+// that is lent has no type of its own to hold it.
 ghost use Rattle.std.specs.Prelude.{◌≡◌, ◌<◌, ◌≤◌, length};
 ghost use Rattle.std.specs.List.Sorted.{IsPartitionPoint};
 ghost use Rattle.range_list.specs.Ranges.{IsSound, meeting as meeting_in};

@@ -20,7 +20,7 @@ pub struct InitTracker<'a, I> {
 impl<'a, I: Index> InitTracker<'a, I> {
     ghost use Rattle.range_list.specs.View.{view, positions};
 
-    // The list that stands in the first `len` of these places.
+    // The list that stands in the first `len` of these places; that there are so many is asked here, where the type begins.
     pub fn over(places: &'a mut [Span<I>], len: usize) -> InitTracker<'a, I>
         requires fits { len ≤ length places.old }
         ensures len { result.len ≡ len }

@@ -1,4 +1,5 @@
-// A plain set of the positions 0 to 8, as a bit for each, and what it says of a query by its definition.
+// A plain set of the positions 0 to 8, as a bit for each, and what it says of a query by its definition. A set is a bare
+// number, so that counting up tries every set.
 use range_list::Span;
 
 // How many positions there are.

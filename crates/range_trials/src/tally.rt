@@ -1,6 +1,6 @@
 // What was tried, counted.
 
-#[derive(Clone, Copy, Debug, Default)]
+#[derive(Clone, Copy, Debug, Default, PartialEq, Eq)]
 pub struct Tally {
     pub lists: u64,
     pub queries: u64,

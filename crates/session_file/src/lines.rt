@@ -20,7 +20,7 @@ pub(crate) enum Line {
     Accepted { call: u64, value: u64 },
     // A call of this number that was declined, and why.
     Declined { call: u64, cause: Refusal },
-    // A file that is not as it must be.
+    // A file that is not as it must be. Its line is always the same: a bad description, with no call ahead of it.
     Bad,
 }
 
