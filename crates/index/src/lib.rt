@@ -1,10 +1,10 @@
-// What a range list asks of the indexes that its ranges lie between: an order, and positions that it follows.
+// What a range list asks of the indexes that its ranges lie between: a position, and an order that follows it.
 #![tactic(auto)]
 
-ghost use Rattle.std.specs.Prelude.{◌≡◌, ℕ, ◌+◌, ◌<◌, max, min, ◌==◌, nat_lt, refl};
-ghost use Rattle.std.specs.Ordering.{nat_cmp};
+ghost use Rattle.std.specs.Prelude.{◌≡◌, ℕ, ◌+◌, ◌<◌, max, min, ◌==◌, nat_lt};
 
-pub trait Index: Ord + Copy {
+// No `Ord`: a type is an index by its positions alone, whatever else it is compared by.
+pub trait Index: Copy {
     // where an index stands, counted from the least
     ghost position: { Self → ℕ };
 
@@ -12,18 +12,12 @@ pub trait Index: Ord + Copy {
     fn least() -> Self
         ensures { position result ≡ 0 };
 
-    // an index is before another where its position is
-    ghost follows: { (a b : Self) → Self.cmp a b ≡ nat_cmp (position a) (position b) };
+    // Whether this index stands before the other.
+    fn before(self, other: Self) -> bool
+        ensures { result ≡ nat_lt (position self) (position other) };
 
     // equal positions mean equal indexes
     ghost apart: { (a b : Self) → position a ≡ position b → a ≡ b };
-
-    // Whether this index stands before the other.
-    final fn before(self, other: Self) -> bool
-        ensures { result ≡ nat_lt (position self) (position other) }
-    {
-        self < other
-    }
 }
 
 // An index that has a next one; only adding a single index to a list asks for it.
@@ -38,13 +32,16 @@ pub trait Stepping: Index {
 impl Index for u64 {
     ghost position = { λ x. x };
 
-    ghost follows = { λ a b. refl };
-
     ghost apart = { λ a b same. same };
 
     // The first byte.
     fn least() -> u64 {
         u64::MIN
+    }
+
+    // Whether this byte stands before the other.
+    fn before(self, other: u64) -> bool {
+        self < other
     }
 }
 
@@ -52,13 +49,16 @@ impl Index for u64 {
 impl Index for u32 {
     ghost position = { λ x. x };
 
-    ghost follows = { λ a b. refl };
-
     ghost apart = { λ a b same. same };
 
     // The first layer.
     fn least() -> u32 {
         u32::MIN
+    }
+
+    // Whether this layer stands before the other.
+    fn before(self, other: u32) -> bool {
+        other > self
     }
 }
 
@@ -69,24 +69,23 @@ impl Stepping for u32 {
     }
 }
 
-// The one of two indexes that stands later. This, the next two and `before` are the library's, named for what they say
-// of positions.
+// The one of two indexes that stands later. This and the next two stand on `before`, the one order that an index has.
 pub fn later<I: Index>(a: I, b: I) -> I
     ensures { I.Index.position result ≡ max (I.Index.position a) (I.Index.position b) }
 {
-    a.max(b)
+    if a.before(b) { b } else { a }
 }
 
 // The one of two indexes that stands earlier.
 pub fn earlier<I: Index>(a: I, b: I) -> I
     ensures { I.Index.position result ≡ min (I.Index.position a) (I.Index.position b) }
 {
-    a.min(b)
+    if a.before(b) { a } else { b }
 }
 
 // Whether two indexes have one position.
 pub fn same<I: Index>(a: I, b: I) -> bool
     ensures { result ≡ (I.Index.position a == I.Index.position b) }
 {
-    a == b
+    !a.before(b) && !b.before(a)
 }

@@ -17,21 +17,21 @@ use Rattle.init_tracker.specs.Books.{held, owing, fitting}
 use Rattle.init_tracker.specs.declared.book.Book.{Book}
 
 -- a book keeps its ranges apart and within its size, and has at most as many of them as places
-pub held_sound : {I : Type 0} {N : ℕ} {g o e p : _} (b : Book I N g o e p) → Sound (g.position b.size) (held b)
+pub held_sound : {I : Type 0} {N : ℕ} {g : _} (b : Book I N g) → Sound (g.position b.size) (held b)
 held_sound {g = g} b = sound_held (g.position b.size) (held b) b.sound
 
-pub held_count : {I : Type 0} {N : ℕ} {g o e p : _} (b : Book I N g o e p) → length (held b) ≡ b.len
+pub held_count : {I : Type 0} {N : ℕ} {g : _} (b : Book I N g) → length (held b) ≡ b.len
 held_count {g = g} b = length-map (take b.len b.places) (ends g.position) ∙ length-take-le b.len b.places (omega (arith, b.full, b.fits))
 
-pub held_few : {I : Type 0} {N : ℕ} {g o e p : _} (b : Book I N g o e p) → length (held b) ≤ N
+pub held_few : {I : Type 0} {N : ℕ} {g : _} (b : Book I N g) → length (held b) ≤ N
 held_few b = omega (arith, held_count b, b.fits)
 
-pub owing_few : {g o e p : _} (b : Book ℕ 64 g o e p) → length (owing b) ≤ 64
+pub owing_few : {g : _} (b : Book ℕ 64 g) → length (owing b) ≤ 64
 owing_few b = held_few b
 
 -- two books with the same places, count and size are the same book
-module _ {I : Type 0} {N : ℕ} {g o e p : _} (b : Book I N g o e p) where
-  abbrev made : (ps : List (Span I)) (n : ℕ) (s : I) → length ps ≡ N → n ≤ N → ∥ Sound (g.position s) (all_ends g.position (take n ps)) ∥₁ → Book I N g o e p
+module _ {I : Type 0} {N : ℕ} {g : _} (b : Book I N g) where
+  abbrev made : (ps : List (Span I)) (n : ℕ) (s : I) → length ps ≡ N → n ≤ N → ∥ Sound (g.position s) (all_ends g.position (take n ps)) ∥₁ → Book I N g
   made ps n s a l h = record { places = ps; len = n; size = s; full = a; fits = l; sound = h }
 
   abbrev Same : List (Span I) → ℕ → I → Type 0
@@ -40,7 +40,7 @@ module _ {I : Type 0} {N : ℕ} {g o e p : _} (b : Book I N g o e p) where
   same_facts : Same b.places b.len b.size
   same_facts a l h = λ i. made b.places b.len b.size (ℕ_set _ _ b.full a i) (le_prop b.fits l i) (∥∥₁_prop b.sound h i)
 
-  pub book_same : (d : Book I N g o e p) → b.places ≡ d.places → b.len ≡ d.len → b.size ≡ d.size → b ≡ d
+  pub book_same : (d : Book I N g) → b.places ≡ d.places → b.len ≡ d.len → b.size ≡ d.size → b ≡ d
   book_same d p n s =
       subst (λ m. Same d.places d.len m) s (subst (λ m. Same d.places m b.size) n (subst (λ ps. Same ps b.len b.size) p same_facts))
       d.full d.fits d.sound

@@ -6,12 +6,12 @@ use Rattle.range_list.specs.Ranges.{drained}
 use Rattle.range_list.specs.View.{all_ends}
 use Rattle.init_tracker.specs.declared.book.Book.{Book}
 
--- the ranges that are uninitialized, by positions; a book's type names what the traits of its index say, and g what its positions are
-abbrev pub held : {I : Type 0} {N : ℕ} {g o e p : _} → Book I N g o e p → List (ℕ × ℕ)
+-- the ranges that are uninitialized, by positions; a book's type names in g what the positions of its index are
+abbrev pub held : {I : Type 0} {N : ℕ} {g : _} → Book I N g → List (ℕ × ℕ)
 held {g = g} b = all_ends g.position (take b.len b.places)
 
 -- the byte ranges of a buffer that are uninitialized
-abbrev pub owing : {g o e p : _} → Book ℕ 64 g o e p → List (ℕ × ℕ)
+abbrev pub owing : {g : _} → Book ℕ 64 g → List (ℕ × ℕ)
 owing b = held b
 
 -- a change is declined where it would leave more ranges than n places

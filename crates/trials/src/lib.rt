@@ -7,3 +7,5 @@ mod calls;
 mod devices;
 #[cfg(test)]
 mod files;
+#[cfg(test)]
+mod indexes;
