@@ -1,9 +1,9 @@
 -- What a proper shape keeps to, limit by limit.
-use Rattle.std.proofs.Common.{◌≡◌, ◌-◌, ◌*◌, ◌/◌, ◌^◌, ◌<◌, ◌≤◌, true, false, cond, ⊎_elim, lt_of_lt_of_le, arith, pow_mono}
+use Rattle.std.proofs.Common.{◌≡◌, ◌-◌, ◌*◌, ◌/◌, ◌%◌, ◌^◌, ◌<◌, ◌≤◌, true, false, cond, ◌||◌, ⊎_elim, lt_of_lt_of_le, arith, pow_mono}
 use native.Mathlib.Nat.{div-eq_of_lt, max-le}
 use Rattle.std.proofs.lemmas.Bool.Decides.{nat_tests}
 use Rattle.std.proofs.lemmas.Bool.{cases_lt}
-use Rattle.texture.specs.Shapes.{Shape, flat, layers_of, depth_of, largest, proper}
+use Rattle.texture.specs.Shapes.{Shape, block_width, block_height, suits, flat, flat_mode, flat_format, layers_of, depth_of, largest, proper}
 
 module _ (s : Shape) (h : proper s ≡ true) where
   pub width_kept : (1 ≤ s.width) × (s.width ≤ 16384)
@@ -15,8 +15,25 @@ module _ (s : Shape) (h : proper s ≡ true) where
   pub count_kept : (1 ≤ s.count) × (s.count ≤ 64)
   count_kept = grind (arith, nat_tests)
 
+  pub mode_kept : suits s.mode s.format ≡ true
+  mode_kept = grind (arith, nat_tests)
+
+  pub dimension_kept : (flat s.dimension || cond (flat_mode s.mode) false (cond (flat_format s.format) false true)) ≡ true
+  dimension_kept = grind (arith, nat_tests)
+
+  pub width_whole : s.width % block_width s.format ≡ 0
+  width_whole = grind (arith, nat_tests)
+
+  pub height_whole : s.height % block_height s.format ≡ 0
+  height_whole = grind (arith, nat_tests)
+
   halved : (1 ≤ s.mips) × (1 ≤ largest s / 2 ^ (s.mips - 1))
   halved = grind (arith, nat_tests)
+
+  pub layers_kept : (1 ≤ layers_of s) × (layers_of s ≤ 64)
+  layers_kept =
+      let k = count_kept in
+      elim (flat s.dimension) as (λ b. (1 ≤ cond b s.count 1) × (cond b s.count 1 ≤ 64)) [ true ↦ k | false ↦ (omega arith, omega arith) ]
 
   pub depth_kept : (1 ≤ depth_of s) × (depth_of s ≤ 64)
   depth_kept =

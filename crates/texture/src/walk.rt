@@ -52,6 +52,13 @@ impl SurfaceRuns {
         }
     }
 
+    // How many runs are left, from the numbers alone: the count that every iterator has would take them one by one.
+    pub fn count(self) -> u64
+        ensures { result ≡ length (runs_left self) }
+    {
+        self.len() as u64
+    }
+
     // The same runs, with a row left in this slice if any run is left.
     fn in_slice(mut self) -> SurfaceRuns
         ensures same { runs_left result ≡ runs_left self }
