@@ -4,3 +4,4 @@ pub mod Moves
 pub mod Shifts
 pub mod Steps
 pub mod Points
+pub mod Checks

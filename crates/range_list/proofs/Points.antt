@@ -147,25 +147,6 @@ checked_meeting lo hi n rs h =
       | inr q ↦ rw (le-ltb lo hi q, meeting_none lo hi rs q)
     ]
 
--- what a check answers, by the places of the ranges that its query meets
-module _ {X : Type 0} (f : X → ℕ × ℕ) (lo hi : ℕ) (rs : List (ℕ × ℕ)) (h : IsSound rs) where
-  from_met : (xs : List X) (r : Option (ℕ × ℕ)) → map f xs ≡ meeting lo hi rs → r ≡ answered lo hi (map f xs) → r ≡ checked lo hi rs
-  from_met xs r e a = a ∙ ap (answered lo hi) e ∙ sym (checked_meeting lo hi h.0 rs h.1)
-
-  pub checked_none : (xs : List X) → map f xs ≡ meeting lo hi rs → length xs < 1 → None ≡ checked lo hi rs
-  checked_none [] e k = from_met [] None e refl
-  checked_none (x ∷ xs) e k = absurd (omega arith)
-
-  pub checked_one : (xs : List X) (x : X) → map f xs ≡ meeting lo hi rs → 1 ≤ length xs → length xs < 2 → x ≡ get_or xs 0 x → Some (clipped lo hi (f x)) ≡ checked lo hi rs
-  checked_one [] x e k l i = absurd (omega arith)
-  checked_one (y ∷ []) x e k l i = from_met (y ∷ []) _ e (ap (λ z. Some (clipped lo hi (f z))) i)
-  checked_one (y ∷ z ∷ xs) x e k l i = absurd (omega arith)
-
-  pub checked_more : (xs : List X) (x : X) → map f xs ≡ meeting lo hi rs → 2 ≤ length xs → x ≡ get_or xs 0 x → Some (max (f x).0 lo, hi) ≡ checked lo hi rs
-  checked_more [] x e k i = absurd (omega arith)
-  checked_more (y ∷ []) x e k i = absurd (omega arith)
-  checked_more (y ∷ z ∷ xs) x e k i = from_met (y ∷ z ∷ xs) _ e (ap (λ z. Some (max (f z).0 lo, hi)) i)
-
 -- a drain between two points of a list
 pub drained_at : (lo hi i k : ℕ) (rs : List (ℕ × ℕ)) → lo < hi → IsSound rs → EndBy lo rs i → EndBy hi rs k → i ≤ length rs → k ≤ length rs → (i ≤ k) × (drained lo hi rs ≡ closed lo hi i k rs)
 drained_at lo hi i k rs lt h e f il kl =
