@@ -19,11 +19,12 @@ impl Piece {
         self.end.saturating_sub(self.start)
     }
 
-    // Whether it stands before another, by buffer and address.
+    // Whether it stands before another, by buffer and address. Not as tuples: the search for a piece's place asks this of
+    // every piece before it, and took nearly twice as long.
     pub fn precedes(self, other: Piece) -> bool
         ensures { result ≡ precedes self other }
     {
-        (self.buffer, self.start) < (other.buffer, other.start)
+        self.buffer < other.buffer || (self.buffer == other.buffer && self.start < other.start)
     }
 
     // Whether another of the same buffer begins where it ends.
